@@ -15,6 +15,6 @@ abbrev pub bodies_of : GateFile → List (List ℕ)
 bodies_of gates = gates.bodies.items
 
 -- The disk's file is as the last call of the gated file left it: at rest with its bodies, whatever a stop does.
-pub record IsFileSettled {D : Type 0} (view : DiskView D) (disk : D) (gates : GateFile) : Type 0 where
+pub record IsFileAtRest {D : Type 0} (view : DiskView D) (disk : D) (gates : GateFile) : Type 0 where
   pub at_rest : HasRestingGate (file_of (file_no gates) (view.seen disk)) (bodies_of gates)
   pub durable : view.honest disk → IsDurable (file_no gates) (view.seen disk) (view.may_leave disk)

@@ -26,7 +26,7 @@ pub struct GateFile {
 }
 
 impl GateFile {
-    ghost use Rattle.gate_file.specs.File.{file_no, bodies_of, IsFileSettled};
+    ghost use Rattle.gate_file.specs.File.{file_no, bodies_of, IsFileAtRest};
 
     /// The file's number.
     pub fn file(&self) -> FileNo
@@ -50,7 +50,7 @@ impl GateFile {
     /// `Stopped` and `DiskFault` where the disk stopped or failed, and `OutOfMemory` for the bodies. Then the file can be
     /// attached again.
     pub fn attach<D: Disk>(alloc: Global, disk: &mut D, file: FileNo) -> Result<GateFile, GateFault>
-        ensures settled { IfOk result (λ gates. IsFileSettled D.view disk.new gates) }
+        ensures rests { IfOk result (λ gates. IsFileAtRest D.view disk.new gates) }
         ensures file { IfOk result (λ gates. file_no gates ≡ file) }
         ensures bodies { IfOk result (λ gates. HasBodies (file_of file (D.view.seen disk.old)) (bodies_of gates)) }
         ensures others { OnOk result (OthersStay file (D.view.seen disk.old) (D.view.seen disk.new)) }
@@ -83,7 +83,7 @@ impl GateFile {
         file: FileNo,
         bodies: Vec<Body56>,
     ) -> Result<GateFile, GateFault>
-        ensures settled { IfOk result (λ gates. IsFileSettled D.view disk.new gates) }
+        ensures rests { IfOk result (λ gates. IsFileAtRest D.view disk.new gates) }
         ensures file { IfOk result (λ gates. file_no gates ≡ file) }
         ensures bodies { IfOk result (λ gates. bodies_of gates ≡ bodies.items) }
         ensures whole { OnOk result (file_of file (D.view.seen disk.new) ≡ gated bodies.items) }
@@ -108,8 +108,8 @@ impl GateFile {
     /// `Stopped` and `DiskFault` where the disk stopped or failed: then the file has the bodies that it had, with the new one
     /// or without, and is to be attached again. `OutOfMemory`: it has those that it had, and more can be appended.
     pub fn append<D: Disk>(&mut self, disk: &mut D, body: &[u8; 56]) -> Result<(), GateFault>
-        requires { IsFileSettled D.view disk.old self.old }
-        ensures settled { OnOk result (IsFileSettled D.view disk.new self.new) }
+        requires { IsFileAtRest D.view disk.old self.old }
+        ensures rests { OnOk result (IsFileAtRest D.view disk.new self.new) }
         ensures bodies { OnOk result (bodies_of self.new ≡ bodies_of self.old ++ body.now ∷ []) }
         ensures others { OnOk result (OthersStay (file_no self.old) (D.view.seen disk.old) (D.view.seen disk.new)) }
         ensures file { file_no self.new ≡ file_no self.old }
@@ -119,7 +119,7 @@ impl GateFile {
             (InFileOnly (file_no self.old) (D.view.may_leave disk.old) (IsStaged (bodies_of self.old) (Some body.now))) }
 
         ensures kept { OnErr result (bodies_of self.new ≡ bodies_of self.old) }
-        ensures memory { IsErrOf result OutOfMemory → IsFileSettled D.view disk.new self.new }
+        ensures memory { IsErrOf result OutOfMemory → IsFileAtRest D.view disk.new self.new }
         ensures memory_others { IsErrOf result OutOfMemory → OthersStay (file_no self.old) (D.view.seen disk.old) (D.view.seen disk.new) }
         ensures answer { HasGateAnswer D.view disk.old disk.new result }
         ensures told { TellsThen (MadeCalls gate_fault_of (append_calls (file_no self.old) (length (bodies_of self.old)) body.now) result)

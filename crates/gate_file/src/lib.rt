@@ -1,6 +1,6 @@
 //! A body is in a file or not, and no other is lost. A body that was appended is in the file whatever a stop does; a
 //! stop within an append leaves the bodies from before, with the new one or without (`GateFile::append`, clauses
-//! `settled`, `images`), and so does a stop within an attach after it (`attach`). `ReadGates::read` reads what the
+//! `rests`, `images`), and so does a stop within an attach after it (`attach`). `ReadGates::read` reads what the
 //! file has and writes nothing, `close` makes it ready, and `attach` is both; `rewrite` writes a file anew. A file
 //! has one list of bodies (`a_file_has_one_list_of_bodies`); one in which an append was cut short has the bodies
 //! from before, with the new one or without (`a_staged_file_has_its_bodies`). On a disk that shows its calls, each

@@ -25,7 +25,7 @@ pub struct ReadGates {
 }
 
 impl ReadGates {
-    ghost use Rattle.gate_file.specs.File.{file_no, bodies_of, IsFileSettled};
+    ghost use Rattle.gate_file.specs.File.{file_no, bodies_of, IsFileAtRest};
     ghost use Rattle.gate_file.specs.ReadFile.{file_read, bodies_read, IsRead};
 
     /// The bodies that the file has, in order.
@@ -69,7 +69,7 @@ impl ReadGates {
     /// `Stopped` and `DiskFault` where the disk stopped or failed, and `OutOfMemory`. Then the file is to be read again.
     pub fn close<D: Disk>(self, disk: &mut D) -> Result<GateFile, GateFault>
         requires { IsRead D.view disk.old self }
-        ensures settled { IfOk result (λ gates. IsFileSettled D.view disk.new gates) }
+        ensures rests { IfOk result (λ gates. IsFileAtRest D.view disk.new gates) }
         ensures file { IfOk result (λ gates. file_no gates ≡ file_read self) }
         ensures bodies { IfOk result (λ gates. bodies_of gates ≡ bodies_read self) }
         ensures others { OnOk result (OthersStay (file_read self) (D.view.seen disk.old) (D.view.seen disk.new)) }

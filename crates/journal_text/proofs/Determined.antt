@@ -21,7 +21,7 @@ use Rattle.script_semantics.specs.Free.{IsFreePart}
 use Rattle.script_semantics.specs.Parts.{Plays, Sets, Stays, Then}
 use Rattle.script_semantics.specs.Round.{round_tasks}
 use Rattle.script_semantics.specs.Script.{ArePartsOf, IsPartOf}
-use Rattle.script_semantics.specs.Settling.{Drains, DrainsIn, IsDrainRound, IsLedToQuiet, IsNextMinute, Settles, Walks, WalksIn, WalksOn, calmed, campaign_tasks, coordinator, restart_tasks}
+use Rattle.script_semantics.specs.Settling.{Drains, DrainsIn, IsDrainRound, IsLedToQuiet, IsNextMinute, Settles, Walks, WalksIn, WalksOn, cleared, campaign_tasks, coordinator, restart_tasks}
 use Rattle.script_semantics.specs.Situation.{Situation, Task, Do, after_turn, after_turns, delivered}
 use Rattle.script_semantics.proofs.TurnLemmas.{as_many}
 use Rattle.journal_text.proofs.Courses.{free_as_many, posted_alike}
@@ -180,9 +180,9 @@ led_alike members table at situation =
 
 settles_alike : (members : ℕ) (table : Table) (at : ℤ) → EndAlike members (Settles members table at) (Settles members table at)
 settles_alike members table at =
-    let starts = Plain members (restart_tasks members) calmed in
+    let starts = Plain members (restart_tasks members) cleared in
     then_alike members starts (IsLedToQuiet members table at) starts (IsLedToQuiet members table at)
-    (plain_alike members (restart_tasks members) calmed (λ here. refl)) (led_alike members table at)
+    (plain_alike members (restart_tasks members) cleared (λ here. refl)) (led_alike members table at)
 
 -- ---- walking
 

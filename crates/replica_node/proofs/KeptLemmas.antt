@@ -26,12 +26,12 @@ use Rattle.replica_store.specs.Faults as stored
 use Rattle.replica_store.specs.Files.{other_area, selected, selected_by}
 use Rattle.replica_store.specs.Kept.{IsReady, Shows, StopsInSave}
 use Rattle.replica_store.specs.Made.{area_after, attach_calls, save_calls}
-use Rattle.replica_store.specs.Store.{IsStoreSettled, area_of, jobs_of_store, records_of}
+use Rattle.replica_store.specs.Store.{IsStoreAtRest, area_of, jobs_of_store, records_of}
 use Rattle.replica_store.specs.declared.fault.StoreFault.{StoreFault}
 use Rattle.replica_store.specs.declared.fault.StoreFault.TheVariants as Store
 use Rattle.replica_store.specs.declared.store.Store.{Store as AStore}
 use Rattle.replica_store.proofs.BaseLemmas.{base_early, base_kept, base_lost}
-use Rattle.replica_store.proofs.CleanLemmas.{armed_clean, attached_clean, disarmed_clean, ready_clean, settled_ready}
+use Rattle.replica_store.proofs.CleanLemmas.{armed_clean, attached_clean, disarmed_clean, ready_clean, rests_ready}
 use Rattle.replica_store.proofs.KeptLemmas.{StandsIn, record_early, record_kept, record_lost}
 use Rattle.replica_node.specs.Faults.{of_disk_answer}
 use Rattle.replica_node.specs.Kept.{IsKeptByArm, IsAreaSynced, KeepsChange, LeavesByArm, calls_of_change}
@@ -85,12 +85,12 @@ module _ (jobs : ℕ) (area : FileNo) (kept : Durable) (own : Option ℕ) (arm :
 
 -- ---- between two calls
 
-module _ {D : Type 0} (view : DiskView D) (disk : D) (store : AStore) (kept : Durable) (own : Option ℕ) (change : Delta) (settled : IsStoreSettled view disk store) where
+module _ {D : Type 0} (view : DiskView D) (disk : D) (store : AStore) (kept : Durable) (own : Option ℕ) (change : Delta) (rests : IsStoreAtRest view disk store) where
   abbrev calls : List DiskCall
   calls = save_calls (area_of store) (length (records_of store)) kept own change
 
   ready : (old : Told) → old.done ≡ view.seen disk → IsAreaSynced (area_of store) old → IsReady (area_of store) (records_of store) old
-  ready old done synced = settled_ready view disk store old settled done synced.runs synced.chooser synced.area_clean
+  ready old done synced = rests_ready view disk store old rests done synced.runs synced.chooser synced.area_clean
 
   saved_synced : (old new : Told) → old.done ≡ view.seen disk → IsAreaSynced (area_of store) old → AllDone calls old new → IsAreaSynced (area_after change (area_of store)) new
   saved_synced old new done synced made =

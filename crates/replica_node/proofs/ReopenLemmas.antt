@@ -20,10 +20,10 @@ use Rattle.replica_core.specs.Replica.{ReplicaState}
 use Rattle.replica_core.specs.declared.replica.Planned.{Planned}
 use Rattle.replica_store.specs.Files.{FilesStand, IsRecoverable, selected}
 use Rattle.replica_store.specs.Made.{area_after}
-use Rattle.replica_store.specs.Store.{IsStoreSettled, StoreKeeps, jobs_of_store}
+use Rattle.replica_store.specs.Store.{IsStoreAtRest, StoreKeeps, jobs_of_store}
 use Rattle.replica_store.specs.declared.store.Store.{Store}
 use Rattle.replica_store.proofs.FileLemmas.{files_stand_for_one, recoverable_stands}
-use Rattle.replica_store.proofs.SaveLemmas.{settled_recoverable}
+use Rattle.replica_store.proofs.SaveLemmas.{rests_recoverable}
 use Rattle.replica_node.specs.Change.{IsDecided}
 use Rattle.replica_node.specs.Kept.{IsAnsweredByArm, IsKeptByArm, KeepsChange, LeavesByArm, area_for}
 use Rattle.replica_node.specs.Stopped.{HasPlanned}
@@ -53,11 +53,11 @@ reopens jobs before found now change answer store keeps follows either decided k
     }
 
 -- a replica can go on from the disk with what its replica keeps
-pub found_recoverable : {D : Type 0} (view : DiskView D) (disk : D) (store : Store) (jobs : ℕ) (found now : Durable) → IsStoreSettled view disk store → StoreKeeps store found
+pub found_recoverable : {D : Type 0} (view : DiskView D) (disk : D) (store : Store) (jobs : ℕ) (found now : Durable) → IsStoreAtRest view disk store → StoreKeeps store found
     → jobs_of_store store ≡ jobs → now ≡ found → view.honest disk → IsRecoverable jobs now now (view.may_leave disk)
-found_recoverable view disk store jobs found now settled keeps count same is =
+found_recoverable view disk store jobs found now rests keeps count same is =
     subst (λ (k : Durable). IsRecoverable jobs k k (view.may_leave disk)) (sym same)
-    (subst (λ (n : ℕ). IsRecoverable n found found (view.may_leave disk)) count (settled_recoverable view disk store settled found keeps is))
+    (subst (λ (n : ℕ). IsRecoverable n found found (view.may_leave disk)) count (rests_recoverable view disk store rests found keeps is))
 
 pub found_stands : (jobs : ℕ) (now : Durable) (may_leave : Image → Type 0) (image : Image) → IsRecoverable jobs now now may_leave → may_leave image → FilesStand jobs now image
 found_stands jobs now may_leave image recoverable left =

@@ -20,9 +20,9 @@ use Rattle.replica_core.proofs.OutcomeLemmas.{one_event}
 use Rattle.replica_core.specs.declared.out.StepOut.{StepOut}
 use Rattle.replica_core.specs.declared.replica.Planned.{Planned}
 use Rattle.replica_store.specs.Files.{FilesStand, FilesStandForEither, IsRecoverable}
-use Rattle.replica_store.specs.Store.{IsStoreSettled, StoreKeeps, jobs_of_store}
+use Rattle.replica_store.specs.Store.{IsStoreAtRest, StoreKeeps, jobs_of_store}
 use Rattle.replica_store.proofs.FileLemmas.{recoverable_stands}
-use Rattle.replica_store.proofs.SaveLemmas.{settled_recoverable}
+use Rattle.replica_store.proofs.SaveLemmas.{rests_recoverable}
 use Rattle.replica_node.specs.Node.{FilesStandAround, IsNodeAtRest, IsRecoverableAround, LeadsTo, disk_of, replica_of, runs_in, store_of}
 use Rattle.replica_node.specs.declared.node.Node.{Node}
 use Rattle.replica_node.proofs.StepLemmas.{event_planned, kept_by_change}
@@ -37,7 +37,7 @@ pub recoverable_at_rest : {D : Type 0} (view : DiskView D) (table : Table) (node
     → IsRecoverable (length table.jobs) (replica_of node).state.kept (replica_of node).state.kept (view.may_leave (disk_of node))
 recoverable_at_rest view table node rest is =
     let kept = (replica_of node).state.kept in
-    subst (λ (jobs : ℕ). IsRecoverable jobs kept kept (view.may_leave (disk_of node))) rest.jobs (settled_recoverable view (disk_of node) (store_of node) rest.settled kept rest.keeps is)
+    subst (λ (jobs : ℕ). IsRecoverable jobs kept kept (view.may_leave (disk_of node))) rest.jobs (rests_recoverable view (disk_of node) (store_of node) rest.rests kept rest.keeps is)
 
 -- whatever a stop leaves between two calls stands for what the replica keeps
 pub stands_at_rest : {D : Type 0} (view : DiskView D) (table : Table) (node : Node D) → IsNodeAtRest view table node → view.honest (disk_of node) → (image : Image)
@@ -55,16 +55,16 @@ of_table_alike table old now alike of_table =
 
 -- a node whose replica is alike, and whose store keeps the same, is at rest as it was
 pub at_rest_still : {D : Type 0} (view : DiskView D) (table : Table) (old new : Node D) → IsNodeAtRest view table old → IsSameReplica (replica_of new) (replica_of old)
-    → runs_in new ≡ runs_in old → jobs_of_store (store_of new) ≡ jobs_of_store (store_of old) → IsStoreSettled view (disk_of new) (store_of new) → StoreKeeps (store_of new) (replica_of new).state.kept
+    → runs_in new ≡ runs_in old → jobs_of_store (store_of new) ≡ jobs_of_store (store_of old) → IsStoreAtRest view (disk_of new) (store_of new) → StoreKeeps (store_of new) (replica_of new).state.kept
     → IsNodeAtRest view table new
-at_rest_still view table old new rest alike runs jobs settled keeps =
+at_rest_still view table old new rest alike runs jobs rests keeps =
     record {
       runs = runs ∙ rest.runs;
       member = rw alike.identity rest.member;
       few = rw alike.identity rest.few;
       of_table = of_table_alike table (replica_of old) (replica_of new) alike rest.of_table;
       coherent = rw (alike.identity, alike.state) rest.coherent;
-      settled = settled;
+      rests = rests;
       jobs = jobs ∙ rest.jobs;
       keeps = keeps;
     }
@@ -79,8 +79,8 @@ step_coherent table input old new event few coherent of_table is identity state 
 pub at_rest_after : {D : Type 0} (view : DiskView D) (table : Table) (input : Input) (old new : Node D) (now : ReplicaState) (planned : Planned) (delta : Option Delta) (out : StepOut)
     → IsNodeAtRest view table old → IsSameReplica now (replica_of old) → (plans : PlansStep table input (replica_of old) planned) → Takes table now (replica_of new) (step (replica_of old).identity plans.event (replica_of old).state) out
     → deltas_of (step (replica_of old).identity plans.event (replica_of old).state) ≡ option_to_list delta → runs_in new ≡ runs_in old → jobs_of_store (store_of new) ≡ jobs_of_store (store_of old)
-    → IsStoreSettled view (disk_of new) (store_of new) → StoreKeeps (store_of new) (kept_after delta now.state.kept) → IsNodeAtRest view table new
-at_rest_after view table input old new now planned delta out rest alike plans takes told runs jobs settled keeps =
+    → IsStoreAtRest view (disk_of new) (store_of new) → StoreKeeps (store_of new) (kept_after delta now.state.kept) → IsNodeAtRest view table new
+at_rest_after view table input old new now planned delta out rest alike plans takes told runs jobs rests keeps =
     let acts = step (replica_of old).identity plans.event (replica_of old).state in
     let identity : (replica_of new).identity ≡ (replica_of old).identity = takes.identity ∙ alike.identity in
     let state : (replica_of new).state ≡ after_acts acts (replica_of old).state = takes.state ∙ ap (after_acts acts) alike.state in
@@ -91,7 +91,7 @@ at_rest_after view table input old new now planned delta out rest alike plans ta
       few = rw identity rest.few;
       of_table = takes.of_table;
       coherent = step_coherent table input (replica_of old) (replica_of new) plans.event (few_members (replica_of old).identity.me (replica_of old).identity.members rest.member rest.few) rest.coherent rest.of_table plans.event_is identity state;
-      settled = settled;
+      rests = rests;
       jobs = jobs ∙ rest.jobs;
       keeps = subst (StoreKeeps (store_of new)) kept keeps;
     }

@@ -20,7 +20,7 @@ ghost use Rattle.replica_core.specs.Commit.{kept_after};
 ghost use Rattle.replica_core.specs.Replica.{IsSmall};
 ghost use Rattle.replica_core.specs.Step.{IsSameReplica, IsInputInside, IsOfTable, Steps, fault_in};
 ghost use Rattle.replica_store.specs.Files.{selected, FilesStand, FilesStandForEither, IsRecoverable};
-ghost use Rattle.replica_store.specs.Store.{area_of, jobs_of_store, StoreKeeps, IsStoreSettled};
+ghost use Rattle.replica_store.specs.Store.{area_of, jobs_of_store, StoreKeeps, IsStoreAtRest};
 ghost use Rattle.replica_node.specs.declared.fault.NodeFault.TheVariants.{Stopped, OutOfMemory, Damaged, Letter};
 ghost use Rattle.replica_node.specs.Faults.{of_disk_answer, EndsRun, HasNodeAnswer, IsStepRefused, letter_told};
 ghost use Rattle.replica_node.specs.Reliable.{CantFail, IsReliable, IsUnfailing, IsUnfailingAfter};
@@ -206,7 +206,7 @@ impl<D: Disk> Node<D> {
 
     // Saves a change, where there is one.
     fn keep(&mut self, delta: Option<&Delta>) -> Result<(), NodeFault>
-        requires settled { IsStoreSettled D.view (disk_of self.old) (store_of self.old) }
+        requires rests { IsStoreAtRest D.view (disk_of self.old) (store_of self.old) }
         requires keeps { StoreKeeps (store_of self.old) (replica_of self.old).state.kept }
         requires follows { (change : Delta) → option_copied delta ≡ Some change
             → ChangeMayFollow (jobs_of_store (store_of self.old)) (replica_of self.old).state.kept change }
@@ -214,10 +214,10 @@ impl<D: Disk> Node<D> {
         ensures changed { IsErrOf result Stopped → IsSome (option_copied delta.entry) }
         ensures jobs { jobs_of_store (store_of self.new) ≡ jobs_of_store (store_of self.old) }
         ensures runs { OnOk result (runs_in self.new ≡ runs_in self.old) }
-        ensures settled { OnOk result (IsStoreSettled D.view (disk_of self.new) (store_of self.new)) }
+        ensures rests { OnOk result (IsStoreAtRest D.view (disk_of self.new) (store_of self.new)) }
         ensures keeps { OnOk result (StoreKeeps (store_of self.new) (kept_after (option_copied delta.entry) (replica_of self.old).state.kept)) }
         ensures memory { IsErrOf result OutOfMemory → (runs_in self.new ≡ runs_in self.old)
-            × IsStoreSettled D.view (disk_of self.new) (store_of self.new)
+            × IsStoreAtRest D.view (disk_of self.new) (store_of self.new)
             × StoreKeeps (store_of self.new) (replica_of self.old).state.kept }
         ensures ended { EndsRun result → runs_in self.new ≡ false }
         ensures images { D.view.honest (disk_of self.old) → LeavesOnly D.view (disk_of self.old) (disk_of self.new)
@@ -466,7 +466,7 @@ fn start<D: Disk>(
 ) -> Result<(Store, Replica), NodeFault>
     requires me { me < members }
     requires few { members ≤ 7 }
-    ensures settled { IfOk result (λ found. IsStoreSettled D.view disk.new found.0) }
+    ensures rests { IfOk result (λ found. IsStoreAtRest D.view disk.new found.0) }
     ensures jobs { IfOk result (λ found. jobs_of_store found.0 ≡ length table.now.jobs) }
     ensures keeps { IfOk result (λ found. StoreKeeps found.0 found.1.state.kept) }
     ensures identity { IfOk result (λ found. found.1.identity ≡ record { me = me; members = members }) }

@@ -12,7 +12,7 @@ ghost use Rattle.store_format.specs.Area.{IsFirstRecordAtFault};
 ghost use Rattle.replica_core.specs.Replica.{IsSmall, ReplicaState};
 ghost use Rattle.replica_core.specs.Step.{CanTake, IsOfTable};
 ghost use Rattle.replica_store.specs.Files.{selected, FilesStand, IsRecoverable};
-ghost use Rattle.replica_store.specs.Store.{area_of, jobs_of_store, StoreKeeps, IsStoreSettled};
+ghost use Rattle.replica_store.specs.Store.{area_of, jobs_of_store, StoreKeeps, IsStoreAtRest};
 ghost use Rattle.replica_node.specs.Change.{ShowsChange, IsDecided};
 ghost use Rattle.replica_node.specs.Faults.{EndsRun, HasNodeAnswer};
 ghost use Rattle.replica_node.specs.Kept.{IsAreaSynced};
@@ -36,7 +36,7 @@ pub fn attach_stopped<D: ArmedDisk>(
     jobs: u32,
 ) -> Result<(Store, Durable), NodeFault>
     requires stopped { TellsStop (D.view.told disk.old) }
-    ensures settled { IfOk result (λ found. IsStoreSettled D.view disk.new found.0) }
+    ensures rests { IfOk result (λ found. IsStoreAtRest D.view disk.new found.0) }
     ensures jobs { IfOk result (λ found. jobs_of_store found.0 ≡ jobs) }
     ensures keeps { IfOk result (λ found. StoreKeeps found.0 found.1) }
     ensures image { (told : Told) → D.view.told disk.old ≡ Some told → IfOk result (λ found. FilesStand jobs found.1 (image_left told)) }

@@ -21,7 +21,7 @@ use Rattle.replica_store.specs.declared.store.Store.{Store}
 use Rattle.replica_store.specs.Files.{selected, bit_of, other_area}
 use Rattle.replica_store.specs.Kept.{IsClean, IsReady}
 use Rattle.replica_store.specs.Made.{attach_calls, save_calls, area_after}
-use Rattle.replica_store.specs.Store.{area_of, records_of, IsStoreSettled}
+use Rattle.replica_store.specs.Store.{area_of, records_of, IsStoreAtRest}
 use Rattle.replica_store.proofs.FileLemmas.{other_is_area, selects_area}
 use Rattle.replica_store.proofs.MadeLemmas.{saves_record, stays_in_area}
 use Rattle.replica_store.proofs.StoppedLemmas.{IsSynced, sync_clean, sync_cleans, synced_then, write_passed}
@@ -81,15 +81,15 @@ ready_clean area records kept own change old new ready done = saved_clean area (
 
 -- ---- between two calls
 
-pub settled_ready : {D : Type 0} (view : DiskView D) (disk : D) (store : Store) (told : Told) → IsStoreSettled view disk store → told.done ≡ view.seen disk → told.stopped ≡ false
+pub rests_ready : {D : Type 0} (view : DiskView D) (disk : D) (store : Store) (told : Told) → IsStoreAtRest view disk store → told.done ≡ view.seen disk → told.stopped ≡ false
     → IsClean Chooser told → IsClean (area_of store) told → IsReady (area_of store) (records_of store) told
-settled_ready view disk store told settled same runs chooser clean =
+rests_ready view disk store told rests same runs chooser clean =
     record {
       runs = runs;
-      selects = ap selected same ∙ settled.selects;
+      selects = ap selected same ∙ rests.selects;
       chooser = chooser;
       area_clean = clean;
-      at_rest = subst (λ image. HasRestingGate (file_of (area_of store) image) (records_of store)) (sym same) settled.gates.at_rest;
+      at_rest = subst (λ image. HasRestingGate (file_of (area_of store) image) (records_of store)) (sym same) rests.gates.at_rest;
     }
 
 arm_clean : (stopped : Bool) (arm : Option Arm) (file : FileNo) (told : Told) → IsClean file told → IsClean file (if stopped then told else record told { arm = arm })

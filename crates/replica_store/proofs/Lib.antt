@@ -9,5 +9,5 @@ pub mod MadeLemmas
 pub mod PendingLemmas
 pub mod RowsLemmas
 pub mod SaveLemmas
-pub mod SettledLemmas
+pub mod RestLemmas
 pub mod StoppedLemmas

@@ -6,7 +6,7 @@ use Rattle.disk_model.specs.Images.{Image, file_of, OthersStay, InFile, HoldsPie
 use Rattle.disk_model.specs.View.{DiskView, LeavesOnly}
 use Rattle.disk_model.proofs.CallerLemmas.{follows_on, leaves_weaker}
 use Rattle.disk_model.proofs.RunLemmas.{now_in_run}
-use Rattle.gate_file.specs.File.{file_no, bodies_of, IsFileSettled}
+use Rattle.gate_file.specs.File.{file_no, bodies_of, IsFileAtRest}
 use Rattle.gate_file.specs.Gates.{HasRestingGate, IsStaged}
 use Rattle.gate_file.specs.declared.gate_file.GateFile.{GateFile}
 use Rattle.paxos_base.specs.declared.durable.Delta.{Delta}
@@ -19,7 +19,7 @@ use Rattle.store_format.specs.Records.{IsRecord, RowHasCursor}
 use Rattle.store_format.proofs.ChangeLemmas.{StandFor-change}
 use Rattle.replica_store.specs.declared.store.Store.{Store}
 use Rattle.replica_store.specs.Files.{selected, bit_of, other_area, BodiesStand, FilesStandForEither, IsRecoverable}
-use Rattle.replica_store.specs.Store.{StoreKeeps, IsStoreSettled}
+use Rattle.replica_store.specs.Store.{StoreKeeps, IsStoreAtRest}
 use Rattle.replica_store.proofs.FileLemmas.{selects_area, byte_written, same_chooser, recoverable_stands, fewer_recoverable, other_differs, other_is_area}
 use Rattle.replica_store.proofs.ImageLemmas.{stays_durable, in_area, in_other, in_chooser, at_rest_alone}
 
@@ -40,79 +40,79 @@ module _ {D : Type 0} (view : DiskView D) (jobs : ℕ) (before after : Durable) 
 
 module _ {D : Type 0} (view : DiskView D) where
   -- a gated file in a file that isn't changed
-  pub still_settled : (old new : D) (gates : GateFile) (changed : FileNo) (P : List ℕ → Type 0) → file_no gates ≢ changed → (view.honest new → view.honest old) → IsFileSettled view old gates → OthersStay changed (view.seen old) (view.seen new)
-      → (view.honest old → (image : Image) → view.may_leave new image → InFileOnly changed (view.may_leave old) P image) → IsFileSettled view new gates
-  still_settled old new gates changed P differs before settled others only =
+  pub still_rests : (old new : D) (gates : GateFile) (changed : FileNo) (P : List ℕ → Type 0) → file_no gates ≢ changed → (view.honest new → view.honest old) → IsFileAtRest view old gates → OthersStay changed (view.seen old) (view.seen new)
+      → (view.honest old → (image : Image) → view.may_leave new image → InFileOnly changed (view.may_leave old) P image) → IsFileAtRest view new gates
+  still_rests old new gates changed P differs before rests others only =
       record {
-        at_rest = subst (λ bytes. HasRestingGate bytes (bodies_of gates)) (sym (others (file_no gates) differs)) settled.at_rest;
-        durable = λ is. stays_durable (file_no gates) changed differs (view.seen old) (view.seen new) (view.may_leave old) (view.may_leave new) P (settled.durable (before is)) others (only (before is));
+        at_rest = subst (λ bytes. HasRestingGate bytes (bodies_of gates)) (sym (others (file_no gates) differs)) rests.at_rest;
+        durable = λ is. stays_durable (file_no gates) changed differs (view.seen old) (view.seen new) (view.may_leave old) (view.may_leave new) P (rests.durable (before is)) others (only (before is));
       }
 
-  module _ (disk : D) (store : Store) (settled : IsStoreSettled view disk store) where
+  module _ (disk : D) (store : Store) (rests : IsStoreAtRest view disk store) where
     pub is_area : file_no store.gates ≢ Chooser
-    is_area is = selects_area (view.seen disk) (settled.selects ∙ is)
+    is_area is = selects_area (view.seen disk) (rests.selects ∙ is)
 
     pub append_recoverable : (kept after : Durable) (body : List ℕ) → StoreKeeps store kept → view.honest disk → BodiesStand store.jobs (bodies_of store.gates ++ body ∷ []) after
         → IsRecoverable store.jobs kept after (InFileOnly (file_no store.gates) (view.may_leave disk) (IsStaged (bodies_of store.gates) (Some body)))
     append_recoverable kept after body keeps is stand =
-        in_area store.jobs kept after (view.seen disk) (view.may_leave disk) (file_no store.gates) (bodies_of store.gates) (Some body) is_area settled.selects (settled.chooser is) (inl keeps) (inr stand)
+        in_area store.jobs kept after (view.seen disk) (view.may_leave disk) (file_no store.gates) (bodies_of store.gates) (Some body) is_area rests.selects (rests.chooser is) (inl keeps) (inr stand)
 
     pub other_recoverable : (kept after : Durable) (P : List ℕ → Type 0) → StoreKeeps store kept → view.honest disk → IsRecoverable store.jobs kept after (InFileOnly (other_area (file_no store.gates)) (view.may_leave disk) P)
     other_recoverable kept after P keeps is =
-        in_other store.jobs kept after (view.seen disk) (view.may_leave disk) (file_no store.gates) (bodies_of store.gates) P is_area settled.selects (settled.chooser is) (settled.gates.durable is) settled.gates.at_rest (inl keeps)
+        in_other store.jobs kept after (view.seen disk) (view.may_leave disk) (file_no store.gates) (bodies_of store.gates) P is_area rests.selects (rests.chooser is) (rests.gates.durable is) rests.gates.at_rest (inl keeps)
 
-    pub chooser_recoverable : (kept after : Durable) (P : List ℕ → Type 0) (gates : GateFile) → file_no gates ≡ other_area (file_no store.gates) → IsFileSettled view disk gates → StoreKeeps store kept → view.honest disk → BodiesStand store.jobs (bodies_of gates) after
+    pub chooser_recoverable : (kept after : Durable) (P : List ℕ → Type 0) (gates : GateFile) → file_no gates ≡ other_area (file_no store.gates) → IsFileAtRest view disk gates → StoreKeeps store kept → view.honest disk → BodiesStand store.jobs (bodies_of gates) after
         → IsRecoverable store.jobs kept after (InFileOnly Chooser (view.may_leave disk) P)
     chooser_recoverable kept after P gates other others keeps is stand =
-        in_chooser store.jobs kept after (view.seen disk) (view.may_leave disk) (file_no store.gates) (bodies_of store.gates) (bodies_of gates) P is_area (settled.gates.durable is)
-        (subst (λ file. IsDurable file (view.seen disk) (view.may_leave disk)) other (others.durable is)) settled.gates.at_rest
+        in_chooser store.jobs kept after (view.seen disk) (view.may_leave disk) (file_no store.gates) (bodies_of store.gates) (bodies_of gates) P is_area (rests.gates.durable is)
+        (subst (λ file. IsDurable file (view.seen disk) (view.may_leave disk)) other (others.durable is)) rests.gates.at_rest
         (subst (λ file. HasRestingGate (file_of file (view.seen disk)) (bodies_of gates)) other others.at_rest) (inl keeps) (inr stand)
 
     -- a store at rest
-    pub settled_recoverable : (kept : Durable) → StoreKeeps store kept → view.honest disk → IsRecoverable store.jobs kept kept (view.may_leave disk)
-    settled_recoverable kept keeps is = at_rest_alone store.jobs kept kept (view.seen disk) (view.may_leave disk) (file_no store.gates) (bodies_of store.gates) settled.selects (settled.chooser is) (settled.gates.durable is) settled.gates.at_rest (inl keeps)
+    pub rests_recoverable : (kept : Durable) → StoreKeeps store kept → view.honest disk → IsRecoverable store.jobs kept kept (view.may_leave disk)
+    rests_recoverable kept keeps is = at_rest_alone store.jobs kept kept (view.seen disk) (view.may_leave disk) (file_no store.gates) (bodies_of store.gates) rests.selects (rests.chooser is) (rests.gates.durable is) rests.gates.at_rest (inl keeps)
 
     -- after calls on its area, which leave it at rest
-    pub settled_in_area : (new : D) (now : Store) (P : List ℕ → Type 0) → (view.honest new → view.honest disk) → IsFileSettled view new now.gates → file_no now.gates ≡ file_no store.gates → OthersStay (file_no store.gates) (view.seen disk) (view.seen new)
-        → (view.honest disk → (image : Image) → view.may_leave new image → InFileOnly (file_no store.gates) (view.may_leave disk) P image) → (kept : Durable) × StoreKeeps now kept → IsStoreSettled view new now
-    settled_in_area new now P before gates same others only keeps =
+    pub rests_in_area : (new : D) (now : Store) (P : List ℕ → Type 0) → (view.honest new → view.honest disk) → IsFileAtRest view new now.gates → file_no now.gates ≡ file_no store.gates → OthersStay (file_no store.gates) (view.seen disk) (view.seen new)
+        → (view.honest disk → (image : Image) → view.may_leave new image → InFileOnly (file_no store.gates) (view.may_leave disk) P image) → (kept : Durable) × StoreKeeps now kept → IsStoreAtRest view new now
+    rests_in_area new now P before gates same others only keeps =
         record {
           gates = gates;
-          selects = same_chooser (view.seen new) (view.seen disk) (others Chooser (λ is. is_area (sym is))) ∙ settled.selects ∙ sym same;
-          chooser = λ is. stays_durable Chooser (file_no store.gates) (λ is_it. is_area (sym is_it)) (view.seen disk) (view.seen new) (view.may_leave disk) (view.may_leave new) P (settled.chooser (before is)) others (only (before is));
+          selects = same_chooser (view.seen new) (view.seen disk) (others Chooser (λ is. is_area (sym is))) ∙ rests.selects ∙ sym same;
+          chooser = λ is. stays_durable Chooser (file_no store.gates) (λ is_it. is_area (sym is_it)) (view.seen disk) (view.seen new) (view.may_leave disk) (view.may_leave new) P (rests.chooser (before is)) others (only (before is));
           keeps = keeps;
         }
 
     -- after calls on the other area
-    pub settled_in_other : (new : D) (P : List ℕ → Type 0) → (view.honest new → view.honest disk) → OthersStay (other_area (file_no store.gates)) (view.seen disk) (view.seen new)
-        → (view.honest disk → (image : Image) → view.may_leave new image → InFileOnly (other_area (file_no store.gates)) (view.may_leave disk) P image) → IsStoreSettled view new store
-    settled_in_other new P before others only =
+    pub rests_in_other : (new : D) (P : List ℕ → Type 0) → (view.honest new → view.honest disk) → OthersStay (other_area (file_no store.gates)) (view.seen disk) (view.seen new)
+        → (view.honest disk → (image : Image) → view.may_leave new image → InFileOnly (other_area (file_no store.gates)) (view.may_leave disk) P image) → IsStoreAtRest view new store
+    rests_in_other new P before others only =
         let other = other_area (file_no store.gates) in
         record {
-          gates = still_settled disk new store.gates other P (λ is. other_differs (file_no store.gates) is_area (sym is)) before settled.gates others only;
-          selects = same_chooser (view.seen new) (view.seen disk) (others Chooser (λ is. other_is_area (file_no store.gates) (sym is))) ∙ settled.selects;
-          chooser = λ is. stays_durable Chooser other (λ is_it. other_is_area (file_no store.gates) (sym is_it)) (view.seen disk) (view.seen new) (view.may_leave disk) (view.may_leave new) P (settled.chooser (before is)) others (only (before is));
-          keeps = settled.keeps;
+          gates = still_rests disk new store.gates other P (λ is. other_differs (file_no store.gates) is_area (sym is)) before rests.gates others only;
+          selects = same_chooser (view.seen new) (view.seen disk) (others Chooser (λ is. other_is_area (file_no store.gates) (sym is))) ∙ rests.selects;
+          chooser = λ is. stays_durable Chooser other (λ is_it. other_is_area (file_no store.gates) (sym is_it)) (view.seen disk) (view.seen new) (view.may_leave disk) (view.may_leave new) P (rests.chooser (before is)) others (only (before is));
+          keeps = rests.keeps;
         }
 
     -- after a write of the chooser that came to nothing
-    pub settled_in_chooser : (new : D) (P : List ℕ → Type 0) → (view.honest new → view.honest disk) → view.seen new ≡ view.seen disk → (view.honest new → IsDurable Chooser (view.seen new) (view.may_leave new))
-        → (view.honest disk → (image : Image) → view.may_leave new image → InFileOnly Chooser (view.may_leave disk) P image) → IsStoreSettled view new store
-    settled_in_chooser new P before same durable only =
+    pub rests_in_chooser : (new : D) (P : List ℕ → Type 0) → (view.honest new → view.honest disk) → view.seen new ≡ view.seen disk → (view.honest new → IsDurable Chooser (view.seen new) (view.may_leave new))
+        → (view.honest disk → (image : Image) → view.may_leave new image → InFileOnly Chooser (view.may_leave disk) P image) → IsStoreAtRest view new store
+    rests_in_chooser new P before same durable only =
         record {
-          gates = still_settled disk new store.gates Chooser P is_area before settled.gates (λ file differs. ap (file_of file) same) only;
-          selects = ap selected same ∙ settled.selects;
+          gates = still_rests disk new store.gates Chooser P is_area before rests.gates (λ file differs. ap (file_of file) same) only;
+          selects = ap selected same ∙ rests.selects;
           chooser = durable;
-          keeps = settled.keeps;
+          keeps = rests.keeps;
         }
 
     -- after the chooser was written
-    pub settled_by_chooser : (new : D) (now : Store) (P : List ℕ → Type 0) → (view.honest new → view.honest disk) → file_no now.gates ≢ Chooser → IsFileSettled view disk now.gates → InFile Chooser (HoldsPiece 0 (bit_of (file_no now.gates) ∷ [])) (view.seen disk) (view.seen new)
+    pub rests_by_chooser : (new : D) (now : Store) (P : List ℕ → Type 0) → (view.honest new → view.honest disk) → file_no now.gates ≢ Chooser → IsFileAtRest view disk now.gates → InFile Chooser (HoldsPiece 0 (bit_of (file_no now.gates) ∷ [])) (view.seen disk) (view.seen new)
         → (view.honest new → IsDurable Chooser (view.seen new) (view.may_leave new))
-        → (view.honest disk → (image : Image) → view.may_leave new image → InFileOnly Chooser (view.may_leave disk) P image) → (kept : Durable) × StoreKeeps now kept → IsStoreSettled view new now
-    settled_by_chooser new now P before differs gates written durable only keeps =
+        → (view.honest disk → (image : Image) → view.may_leave new image → InFileOnly Chooser (view.may_leave disk) P image) → (kept : Durable) × StoreKeeps now kept → IsStoreAtRest view new now
+    rests_by_chooser new now P before differs gates written durable only keeps =
         record {
-          gates = still_settled disk new now.gates Chooser P differs before gates written.others only;
+          gates = still_rests disk new now.gates Chooser P differs before gates written.others only;
           selects = byte_written (file_no now.gates) (view.seen disk) (view.seen new) differs written.step;
           chooser = durable;
           keeps = keeps;

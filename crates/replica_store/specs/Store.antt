@@ -4,7 +4,7 @@ use Rattle.disk_model.specs.declared.fault.FileNo.{FileNo}
 use Rattle.disk_model.specs.declared.fault.FileNo.TheVariants.{Chooser}
 use Rattle.disk_model.specs.Images.{IsDurable}
 use Rattle.disk_model.specs.View.{DiskView}
-use Rattle.gate_file.specs.File.{file_no, bodies_of, IsFileSettled}
+use Rattle.gate_file.specs.File.{file_no, bodies_of, IsFileAtRest}
 use Rattle.paxos_base.specs.declared.durable.Durable.{Durable}
 use Rattle.replica_store.specs.declared.store.Store.{Store}
 use Rattle.replica_store.specs.Files.{selected, BodiesStand}
@@ -27,8 +27,8 @@ StoreKeeps store kept = BodiesStand store.jobs (bodies_of store.gates) kept
 
 -- The disk's files are as the last call of the store left them: the chooser selects the store's area, which is at rest with
 -- its records, whatever a stop does, and these stand for some state.
-pub record IsStoreSettled {D : Type 0} (view : DiskView D) (disk : D) (store : Store) : Type 0 where
-  pub gates : IsFileSettled view disk store.gates
+pub record IsStoreAtRest {D : Type 0} (view : DiskView D) (disk : D) (store : Store) : Type 0 where
+  pub gates : IsFileAtRest view disk store.gates
   pub selects : selected (view.seen disk) ≡ area_of store
   pub chooser : view.honest disk → IsDurable Chooser (view.seen disk) (view.may_leave disk)
   pub keeps : (kept : Durable) × StoreKeeps store kept

@@ -19,7 +19,7 @@ ghost use Rattle.replica_store.specs.declared.store.Store.{Store};
 ghost use Rattle.replica_store.specs.Files.{selected, selected_by, other_area, BodiesStand, FilesStand, FilesStandForEither, IsRecoverable};
 ghost use Rattle.replica_store.specs.Kept.{IsClean, IsReady, StopsInSave, Shows};
 ghost use Rattle.replica_store.specs.Made.{attach_calls, save_calls, area_after};
-ghost use Rattle.replica_store.specs.Store.{jobs_of_store, area_of, records_of, StoreKeeps, IsStoreSettled};
+ghost use Rattle.replica_store.specs.Store.{jobs_of_store, area_of, records_of, StoreKeeps, IsStoreAtRest};
 
 use disk_model::Disk;
 
@@ -47,17 +47,17 @@ pub fn a_stop_leaves_one_of_two_states<D: Disk>()
 {}
 
 /// A law, with nothing to run: between two calls of a store, whatever a stop leaves stands for the one state that it keeps.
-pub fn a_settled_store_is_recoverable<D: Disk>()
-    ensures { (disk : D) (store : Store) (kept : Durable) → D.view.honest disk → IsStoreSettled D.view disk store → StoreKeeps store kept
+pub fn a_store_at_rest_is_recoverable<D: Disk>()
+    ensures { (disk : D) (store : Store) (kept : Durable) → D.view.honest disk → IsStoreAtRest D.view disk store → StoreKeeps store kept
         → IsRecoverable (jobs_of_store store) kept kept (D.view.may_leave disk) }
 {}
 
-/// A law, with nothing to run: a settled store stays so while a disk's files stay as they are, as through the calls of
+/// A law, with nothing to run: a store at rest stays so while a disk's files stay as they are, as through the calls of
 /// [`disk_model::ArmedDisk`] that arm it and take that back.
-pub fn a_settled_store_stays_settled<D: Disk>()
+pub fn a_store_at_rest_stays_so<D: Disk>()
     ensures { (old new : D) (store : Store) → D.view.seen new ≡ D.view.seen old → NoNewImage (D.view.may_leave old) (D.view.may_leave new)
         → (D.view.honest new ↔ D.view.honest old)
-        → IsStoreSettled D.view old store → IsStoreSettled D.view new store }
+        → IsStoreAtRest D.view old store → IsStoreAtRest D.view new store }
 {}
 
 /// A law, with nothing to run: a disk is recoverable with the state that its files stand for, where the chooser and the
@@ -112,11 +112,11 @@ pub fn a_stop_may_keep_a_base()
         → 3 ≤ arm.left → Shows (λ byte. selected_by byte ≡ other_area area) arm.image → selected (image_left new) ≡ other_area area }
 {}
 
-/// A law, with nothing to run: a disk that runs is ready for a save where the store is settled, and the chooser and its area
+/// A law, with nothing to run: a disk that runs is ready for a save where the store is at rest, and the chooser and its area
 /// are clean in what the disk tells. They are so after an attach and after a save that were done, whether the disk is armed
 /// then or not; and a revival leaves every file clean.
 pub fn a_disk_is_ready_for_a_save<D: Disk>()
-    ensures ready { (disk : D) (store : Store) (told : Told) → IsStoreSettled D.view disk store → D.view.told disk ≡ Some told
+    ensures ready { (disk : D) (store : Store) (told : Told) → IsStoreAtRest D.view disk store → D.view.told disk ≡ Some told
         → told.stopped ≡ false → IsClean Chooser told → IsClean (area_of store) told → IsReady (area_of store) (records_of store) told }
     ensures attached { (image : Image) (count : ℕ) (old new : Told) → AllDone (attach_calls image count) old new
         → IsClean Chooser new × IsClean (selected image) new }

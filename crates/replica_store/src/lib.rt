@@ -25,8 +25,8 @@ mod store;
 
 pub use fault::StoreFault;
 pub use laws::{
-    a_disk_is_ready_for_a_save, a_settled_store_is_recoverable, a_settled_store_stays_settled,
-    a_stop_leaves_one_of_two_states, a_stop_may_keep_a_base, a_stop_may_keep_a_record,
+    a_disk_is_ready_for_a_save, a_stop_leaves_one_of_two_states, a_stop_may_keep_a_base,
+    a_stop_may_keep_a_record, a_store_at_rest_is_recoverable, a_store_at_rest_stays_so,
     an_empty_disk_is_recoverable, files_stand_for_one_state, synced_files_are_recoverable,
 };
 pub use store::Store;

@@ -1,6 +1,6 @@
 ghost use Rattle.std.specs.Prelude.{◌≡◌, ◌↔◌, ◌⊎◌, ◌<◌, ◌^◌, ⊤, ℕ, List, length, map, Option, Some, Ok, Err, IfOk, OnOk, OnErr, IsErrOf};
 ghost use Rattle.disk_model.specs.Images.{file_of, OthersStay, NoNewImage, InFileOnly};
-ghost use Rattle.gate_file.specs.File.{file_no, bodies_of, IsFileSettled};
+ghost use Rattle.gate_file.specs.File.{file_no, bodies_of, IsFileAtRest};
 ghost use Rattle.disk_model.specs.Made.{AllDone, MadeCalls};
 ghost use Rattle.disk_model.specs.Told.{TellsThen};
 ghost use Rattle.disk_model.specs.View.{LeavesOnly};
@@ -38,7 +38,7 @@ pub struct Store {
 }
 
 impl Store {
-    ghost use Rattle.replica_store.specs.Store.{jobs_of_store, area_of, records_of, StoreKeeps, IsStoreSettled};
+    ghost use Rattle.replica_store.specs.Store.{jobs_of_store, area_of, records_of, StoreKeeps, IsStoreAtRest};
 
     /// Attaches the files of a disk, of a table of that many jobs, and says what they stand for. What an earlier call that
     /// failed left is decided here.
@@ -51,7 +51,7 @@ impl Store {
         disk: &mut D,
         jobs: u32,
     ) -> Result<(Store, Durable), StoreFault>
-        ensures settled { IfOk result (λ found. IsStoreSettled D.view disk.new found.0) }
+        ensures rests { IfOk result (λ found. IsStoreAtRest D.view disk.new found.0) }
         ensures jobs { IfOk result (λ found. jobs_of_store found.0 ≡ jobs) }
         ensures keeps { IfOk result (λ found. StoreKeeps found.0 found.1) }
         ensures stand { IfOk result (λ found. FilesStand jobs found.1 (D.view.seen disk.old)) }
@@ -109,9 +109,9 @@ impl Store {
     /// for the one after it, and are to be attached again. `OutOfMemory`: they stand for the state before it, and the store
     /// can go on. `Damaged` never.
     pub fn save<D: Disk>(&mut self, disk: &mut D, delta: &Delta) -> Result<(), StoreFault>
-        requires settled { IsStoreSettled D.view disk.old self.old }
+        requires rests { IsStoreAtRest D.view disk.old self.old }
         requires follows { (kept : Durable) → StoreKeeps self.old kept → ChangeMayFollow (jobs_of_store self.old) kept delta.now }
-        ensures settled { OnOk result (IsStoreSettled D.view disk.new self.new) }
+        ensures rests { OnOk result (IsStoreAtRest D.view disk.new self.new) }
         ensures keeps { (kept : Durable) → StoreKeeps self.old kept → OnOk result (StoreKeeps self.new (after_delta delta.now kept)) }
         ensures jobs { jobs_of_store self.new ≡ jobs_of_store self.old }
 
@@ -122,7 +122,7 @@ impl Store {
         ensures recoverable { (kept : Durable) → StoreKeeps self.old kept → D.view.honest disk.old
             → IsRecoverable (jobs_of_store self.old) kept (after_delta delta.now kept) (D.view.may_leave disk.new) }
 
-        ensures memory { IsErrOf result OutOfMemory → IsStoreSettled D.view disk.new self.new }
+        ensures memory { IsErrOf result OutOfMemory → IsStoreAtRest D.view disk.new self.new }
         ensures memory_keeps { (kept : Durable) → StoreKeeps self.old kept → IsErrOf result OutOfMemory → StoreKeeps self.new kept }
         ensures undamaged { (gate : ℕ) → result ≡ Err (Damaged gate) → ⊥ }
         // It goes on in its area, and after a base in the other one.
@@ -159,9 +159,9 @@ impl Store {
         slot: u64,
         rows: &RowList,
     ) -> Result<GateFile, StoreFault>
-        requires settled { IsStoreSettled D.view disk.old self.now }
+        requires rests { IsStoreAtRest D.view disk.old self.now }
         requires rows { RowsStand rows.now (jobs_of_store self.now) }
-        ensures settled { IfOk result (λ gates. IsFileSettled D.view disk.new gates) }
+        ensures rests { IfOk result (λ gates. IsFileAtRest D.view disk.new gates) }
         ensures file { IfOk result (λ gates. file_no gates ≡ other_area (area_of self.now)) }
         ensures stand { (kept : Durable) → StoreKeeps self.now kept
             → IfOk result (λ gates. BodiesStand (jobs_of_store self.now) (bodies_of gates) (after_delta (Base slot rows.now) kept)) }

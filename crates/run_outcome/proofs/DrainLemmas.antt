@@ -53,7 +53,7 @@ abbrev pub AreRight : Situation → Type 0
 AreRight situation = (who : ℕ) → situation.skews who ≡ pos 0
 
 -- readings are no later, and the clocks are right still
-pub record IsCalm (at : ℤ) (rows : List Row) (after : Situation) : Type 0 where
+pub record KeepsTime (at : ℤ) (rows : List Row) (after : Situation) : Type 0 where
   pub by : AreTurnsBy at rows
   pub right : AreRight after
 
@@ -61,13 +61,13 @@ turns_keep : (members : ℕ) (situation : Situation) (rows : List Row) → (afte
 turns_keep members situation [] = refl
 turns_keep members situation (row ∷ rows) = turns_keep members (after_turn members situation row) rows
 
-pub played : (members : ℕ) (at : ℤ) (tasks : List Task) (situation : Situation) (rows : List Row) (after : Situation) → AreTasksBy at tasks → AreRight situation → Performs members tasks situation rows after → IsCalm at rows after
+pub played : (members : ℕ) (at : ℤ) (tasks : List Task) (situation : Situation) (rows : List Row) (after : Situation) → AreTasksBy at tasks → AreRight situation → Performs members tasks situation rows after → KeepsTime at rows after
 played members at tasks situation rows after by right performs = record {
   by = turns_by members at situation tasks rows by performs.turns;
   right = λ who. ap (λ (s : Situation). s.skews who) performs.is ∙ ap (λ skews. skews who) (turns_keep members situation rows) ∙ right who;
 }
 
-joined : (at : ℤ) (front back rows : List Row) (after : Situation) → rows ≡ front ++ back → AreTurnsBy at front → IsCalm at back after → IsCalm at rows after
+joined : (at : ℤ) (front back rows : List Row) (after : Situation) → rows ≡ front ++ back → AreTurnsBy at front → KeepsTime at back after → KeepsTime at rows after
 joined at front back rows after parts first later = record {
   by = subst (AreTurnsBy at) (sym parts) (All-append (λ (r : Row). IsTurnBy at r.turn) front back first later.by);
   right = later.right;
@@ -104,7 +104,7 @@ round_by members window at minute situation right from low task has = by_step (i
     by_step (who, cause, is) = subst (IsTaskBy at) (sym is) (by_cause who cause (subst (λ t. Contains (round_tasks members window minute situation) t) is has))
 
 drains_in : (rounds members : ℕ) (table : Table) (who : ℕ) (at minute : ℤ) (situation : Situation) (rows : List Row) (after : Situation) → AreRight situation → table.window.from.0 ≤ℤ at → minute ≤ℤ at
-    → DrainsIn rounds members table who minute situation rows after → IsCalm at rows after
+    → DrainsIn rounds members table who minute situation rows after → KeepsTime at rows after
 drains_in zero members table who at minute situation rows after right from low drains = record {
   by = subst (AreTurnsBy at) (sym drains.stays.none) (All-nil (λ (r : Row). IsTurnBy at r.turn));
   right = λ other. ap (λ (s : Situation). s.skews other) drains.stays.is ∙ right other;
@@ -121,7 +121,7 @@ drains_in (suc more) members table who at minute situation rows after right from
     joined at parts.front parts.back rows after parts.parts (joined at turns.front turns.back parts.front parts.middle turns.parts stood.by round).by rest
 
 pub drains_by : (members : ℕ) (table : Table) (who : ℕ) (at minute : ℤ) (situation : Situation) (rows : List Row) (after : Situation) → AreRight situation → table.window.from.0 ≤ℤ at → minute ≤ℤ at
-    → Drains members table who minute situation rows after → IsCalm at rows after
+    → Drains members table who minute situation rows after → KeepsTime at rows after
 drains_by members table who at minute situation rows after right from low (rounds, drains) = drains_in rounds members table who at minute situation rows after right from low drains
 
 -- ---- settling
@@ -135,7 +135,7 @@ restarts_by at members situation task has =
     ]
 
 pub settles_by : (members : ℕ) (table : Table) (at minute : ℤ) (situation : Situation) (rows : List Row) (after : Situation) → table.window.from.0 ≤ℤ at → minute ≤ℤ at
-    → Settles members table minute situation rows after → IsCalm at rows after
+    → Settles members table minute situation rows after → KeepsTime at rows after
 settles_by members table at minute situation rows after from low settles =
     let start = settles.one in
     let leads = settles.two in

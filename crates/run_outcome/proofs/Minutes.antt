@@ -82,7 +82,7 @@ turns_of_tasks members minute situation (task ∷ tasks) (row ∷ rows) of (turn
 )
 
 -- the turns are those of the minute, and the clocks are right still
-record IsCalm (minute : ℤ) (rows : List Row) (after : Situation) : Type 0 where
+record KeepsTime (minute : ℤ) (rows : List Row) (after : Situation) : Type 0 where
   of : AreTurnsOf minute rows
   right : AreRight after
 
@@ -90,13 +90,13 @@ turns_keep : (members : ℕ) (situation : Situation) (rows : List Row) → (afte
 turns_keep members situation [] = refl
 turns_keep members situation (row ∷ rows) = turns_keep members (after_turn members situation row) rows
 
-played : (members : ℕ) (minute : ℤ) (tasks : List Task) (situation : Situation) (rows : List Row) (after : Situation) → AreTasksOf minute tasks → AreRight situation → Performs members tasks situation rows after → IsCalm minute rows after
+played : (members : ℕ) (minute : ℤ) (tasks : List Task) (situation : Situation) (rows : List Row) (after : Situation) → AreTasksOf minute tasks → AreRight situation → Performs members tasks situation rows after → KeepsTime minute rows after
 played members minute tasks situation rows after of right performs = record {
   of = turns_of_tasks members minute situation tasks rows of performs.turns;
   right = λ who. ap (λ (s : Situation). s.skews who) performs.is ∙ ap (λ skews. skews who) (turns_keep members situation rows) ∙ right who;
 }
 
-joined : (minute : ℤ) (front back rows : List Row) (after : Situation) → rows ≡ front ++ back → AreTurnsOf minute front → IsCalm minute back after → IsCalm minute rows after
+joined : (minute : ℤ) (front back rows : List Row) (after : Situation) → rows ≡ front ++ back → AreTurnsOf minute front → KeepsTime minute back after → KeepsTime minute rows after
 joined minute front back rows after parts first later = record {
   of = subst (AreTurnsOf minute) (sym parts) (turns_append minute front back first later.of);
   right = later.right;
@@ -134,7 +134,7 @@ round_of_minute members window minute situation right inside task has = of_step 
     of_step (who, cause, is) = subst (IsTaskOf minute) (sym is) (of_cause who cause (subst (λ t. Contains (round_tasks members window minute situation) t) is has))
 
 drains_in : (rounds members : ℕ) (table : Table) (who : ℕ) (minute : ℤ) (situation : Situation) (rows : List Row) (after : Situation) → AreRight situation → IsInWindow table.window minute
-    → DrainsIn rounds members table who minute situation rows after → IsCalm minute rows after
+    → DrainsIn rounds members table who minute situation rows after → KeepsTime minute rows after
 drains_in zero members table who minute situation rows after right inside drains = record {
   of = subst (AreTurnsOf minute) (sym drains.stays.none) tt;
   right = λ other. ap (λ (s : Situation). s.skews other) drains.stays.is ∙ right other;
@@ -151,7 +151,7 @@ drains_in (suc more) members table who minute situation rows after right inside 
     joined minute parts.front parts.back rows after parts.parts (joined minute turns.front turns.back parts.front parts.middle turns.parts stood.of round).of rest
 
 drains_of : (members : ℕ) (table : Table) (who : ℕ) (minute : ℤ) (situation : Situation) (rows : List Row) (after : Situation) → AreRight situation → IsInWindow table.window minute
-    → Drains members table who minute situation rows after → IsCalm minute rows after
+    → Drains members table who minute situation rows after → KeepsTime minute rows after
 drains_of members table who minute situation rows after right inside (rounds, drains) = drains_in rounds members table who minute situation rows after right inside drains
 
 restarts_of : (minute : ℤ) (members : ℕ) (situation : Situation) → AreTasksOf minute (restart_tasks members situation)
@@ -163,7 +163,7 @@ restarts_of minute members situation task has =
     ]
 
 settles_of : (members : ℕ) (table : Table) (minute : ℤ) (situation : Situation) (rows : List Row) (after : Situation) → IsInWindow table.window minute
-    → Settles members table minute situation rows after → IsCalm minute rows after
+    → Settles members table minute situation rows after → KeepsTime minute rows after
 settles_of members table minute situation rows after inside settles =
     let start = settles.one in
     let leads = settles.two in
@@ -242,7 +242,7 @@ pub record IsDrainedBy (n : ℕ) (table : Table) (front : List Row) (minute : �
   pub by : AreTurnsBy minute front
   pub who : ℕ
   pub asks : AsksNothing table minute ((standing_after n (first_rows table) front).replicas who)
-  pub level : (other : ℕ) → other < n
+  pub caught_up : (other : ℕ) → other < n
       → prefix_of ((standing_after n (first_rows table) front).replicas other) ≡ prefix_of ((standing_after n (first_rows table) front).replicas who)
 
 -- the turn stands in such a front
@@ -325,7 +325,7 @@ quiet_drains n table book minute situation who is by quiet = record {
   by = by;
   who = who;
   asks = subst (λ (st : Standing). AsksNothing table minute (st.replicas who)) is quiet.rests;
-  level = λ other lt. subst (λ (st : Standing). prefix_of (st.replicas other) ≡ prefix_of (st.replicas who)) is (quiet.level other lt);
+  caught_up = λ other lt. subst (λ (st : Standing). prefix_of (st.replicas other) ≡ prefix_of (st.replicas who)) is (quiet.caught_up other lt);
 }
 
 longer : (at : ℤ) (book rows : List Row) → AreTurnsBy at book → AreTurnsBy at rows → AreTurnsBy at (book ++ rows)
@@ -340,14 +340,14 @@ walks_drain (suc more) n table who above to book rows situation after from high 
     let after_it = next.later in
     let within = next.within in
     let inside : IsInWindow table.window minute = record { since = omega (arith, ints, from, after_it); before = omega (arith, ints, high, within) } in
-    let calm = drains_of n table who minute situation walks.front walks.middle right inside walks.one in
+    let timely = drains_of n table who minute situation walks.front walks.middle right inside walks.one in
     let quiet = drains_quiet n table who minute situation walks.front walks.middle walks.one in
     let there = goes_on n table book walks.front situation walks.middle is (drains_come n table who minute situation walks.front walks.middle walks.one) in
     let by_then : (at : ℤ) → minute ≤ℤ at → AreTurnsBy at (book ++ walks.front) =
-    λ at low. longer at book walks.front (by at (omega (arith, ints, after_it, low))) (turns_by minute at walks.front low calm.of) in
-    let drained = drained_on n table book walks.front minute known calm.of (quiet_drains n table (book ++ walks.front) minute walks.middle who there (by_then minute (omega (arith, ints))) quiet) in
+    λ at low. longer at book walks.front (by at (omega (arith, ints, after_it, low))) (turns_by minute at walks.front low timely.of) in
+    let drained = drained_on n table book walks.front minute known timely.of (quiet_drains n table (book ++ walks.front) minute walks.middle who there (by_then minute (omega (arith, ints))) quiet) in
     subst (AllDrained n table) (append_assoc book walks.front walks.back ∙ ap (λ some. book ++ some) (sym walks.parts))
-    (walks_drain more n table who minute to (book ++ walks.front) walks.back walks.middle after (omega (arith, ints, from, after_it)) high there by_then calm.right drained walks.two)
+    (walks_drain more n table who minute to (book ++ walks.front) walks.back walks.middle after (omega (arith, ints, from, after_it)) high there by_then timely.right drained walks.two)
 
 -- Each turn of a book that obeys a script without commands stands in a front that is drained at the minute that its clock read.
 pub all_drained : (n : ℕ) (table : Table) (rows : List Row) → table.window.from.0 <ℤ table.window.until.0 → Obeys n table [] rows → AllDrained n table rows
@@ -361,10 +361,10 @@ all_drained n table rows some obeyed =
     let from : table.window.from.0 ≤ℤ minute = omega (arith, ints, clamps, latest, some) in
     let inside : IsInWindow table.window minute = record { since = from; before = omega (arith, ints, clamps, latest, some) } in
     let is : IsOf n table [] obeyed.obeys.middle = ap (λ (s : Situation). s.standing) stays.is in
-    let calm = settles_of n table minute obeyed.obeys.middle walk.front walk.middle inside walk.one in
+    let timely = settles_of n table minute obeyed.obeys.middle walk.front walk.middle inside walk.one in
     let quiet = settled n table minute obeyed.obeys.middle walk.middle walk.front walk.one in
     let there = goes_on n table [] walk.front obeyed.obeys.middle walk.middle is (settles_come n table minute obeyed.obeys.middle walk.front walk.middle walk.one) in
-    let by : (at : ℤ) → minute ≤ℤ at → AreTurnsBy at walk.front = λ at low. turns_by minute at walk.front low calm.of in
-    let first = drained_on n table [] walk.front minute (none_drained n table) calm.of (quiet_drains n table walk.front minute walk.middle quiet.0 there (by minute (omega (arith, ints))) quiet.1) in
-    let all = walks_drain walk.two.0 n table (coordinator n obeyed.obeys.middle) minute last walk.front walk.back walk.middle obeyed.after from (omega (arith, ints)) there by calm.right first walk.two.1 in
+    let by : (at : ℤ) → minute ≤ℤ at → AreTurnsBy at walk.front = λ at low. turns_by minute at walk.front low timely.of in
+    let first = drained_on n table [] walk.front minute (none_drained n table) timely.of (quiet_drains n table walk.front minute walk.middle quiet.0 there (by minute (omega (arith, ints))) quiet.1) in
+    let all = walks_drain walk.two.0 n table (coordinator n obeyed.obeys.middle) minute last walk.front walk.back walk.middle obeyed.after from (omega (arith, ints)) there by timely.right first walk.two.1 in
     subst (AllDrained n table) (sym (obeyed.obeys.parts ∙ ap (λ front. front ++ obeyed.obeys.back) stays.none ∙ walk.parts)) all

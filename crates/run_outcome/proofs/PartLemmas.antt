@@ -22,7 +22,7 @@ use Rattle.script_semantics.specs.Free.{IsFreePart, after_all_posted, after_post
 use Rattle.script_semantics.specs.Parts.{Plays, Sets, Stays, Then}
 use Rattle.script_semantics.specs.Round.{IsRound, round_tasks}
 use Rattle.script_semantics.specs.Script.{ArePartsOf, IsPartOf}
-use Rattle.script_semantics.specs.Settling.{Drains, DrainsIn, IsDrainRound, IsLedToQuiet, Settles, Walks, WalksIn, WalksOn, calmed, campaign_tasks, coordinator, restart_tasks}
+use Rattle.script_semantics.specs.Settling.{Drains, DrainsIn, IsDrainRound, IsLedToQuiet, Settles, Walks, WalksIn, WalksOn, cleared, campaign_tasks, coordinator, restart_tasks}
 use Rattle.script_semantics.specs.Situation.{Performs, Situation, Task, Do, after_turn, after_turns, latest_after, latest_with}
 use Rattle.launch_safety.specs.Readings.{AreTurnsBy, IsTurnBy, ReadsBy}
 
@@ -103,8 +103,8 @@ led members table at situation rows after leads =
 
 pub settles_come : (members : ℕ) (table : Table) (at : ℤ) → Goes members (Settles members table at)
 settles_come members table at =
-    both members (Plain members (restart_tasks members) calmed) (IsLedToQuiet members table at)
-    (plain members (restart_tasks members) calmed (record { standing = λ situation. refl; latest = λ situation. refl })) (led members table at)
+    both members (Plain members (restart_tasks members) cleared) (IsLedToQuiet members table at)
+    (plain members (restart_tasks members) cleared (record { standing = λ situation. refl; latest = λ situation. refl })) (led members table at)
 
 walks_in : (minutes members : ℕ) (table : Table) (who : ℕ) (above to : ℤ) → Goes members (WalksIn minutes members table who above to)
 walks_in zero members table who above to situation rows after walks = stays members situation rows after walks.stays

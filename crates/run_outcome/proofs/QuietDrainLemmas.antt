@@ -6,7 +6,7 @@ use Rattle.history.specs.Book.{Row}
 use Rattle.history.specs.declared.turn.Cause.TheVariants.{Campaign}
 use Rattle.script_semantics.specs.Commands.{Plain}
 use Rattle.script_semantics.specs.Parts.{Plays}
-use Rattle.script_semantics.specs.Settling.{Drains, DrainsIn, IsDrainRound, IsQuiet, Settles, calmed, coordinator, restart_tasks}
+use Rattle.script_semantics.specs.Settling.{Drains, DrainsIn, IsDrainRound, IsQuiet, Settles, cleared, coordinator, restart_tasks}
 use Rattle.script_semantics.specs.Situation.{Situation, Do}
 use Rattle.script_semantics.proofs.StartLemmas.{all_run, same_coordinator}
 use Rattle.settling.specs.Leads.{GoesDrainRound}
@@ -54,14 +54,14 @@ drained_leads left members table who at book rows situation after within soon fa
 -- ---- settling
 
 -- what settling begins with leaves what stands after its turns
-start_stands : (members : ℕ) (table : Table) (book rows : List Row) (situation after : Situation) → IsAfter members table book situation → Plain members (restart_tasks members) calmed situation rows after → IsAfter members table (book ++ rows) after
+start_stands : (members : ℕ) (table : Table) (book rows : List Row) (situation after : Situation) → IsAfter members table book situation → Plain members (restart_tasks members) cleared situation rows after → IsAfter members table (book ++ rows) after
 start_stands members table book rows situation after is start =
     let same : start.front ≡ rows = sym (start.parts ∙ ap (λ list. start.front ++ list) start.two.none ∙ append-nil start.front) in
     subst (λ list. IsAfter members table (book ++ list) after) same
     (ap (λ (s : Situation). s.standing) start.two.is ∙ performed members table book start.front (restart_tasks members situation) situation start.middle is start.one)
 
 -- and no fault
-start_faultless : (members : ℕ) (situation after : Situation) (rows : List Row) → Plain members (restart_tasks members) calmed situation rows after → IsFaultless members after
+start_faultless : (members : ℕ) (situation after : Situation) (rows : List Row) → Plain members (restart_tasks members) cleared situation rows after → IsFaultless members after
 start_faultless members situation after rows start = record {
   runs = λ who member. ap (λ (s : Situation). s.standing.runs who) start.two.is ∙ (ap (λ (s : Situation). s.standing.runs who) start.one.is ∙ all_run members situation start.front who start.one.turns member);
   uncut = ap (λ (s : Situation). s.cuts) start.two.is;

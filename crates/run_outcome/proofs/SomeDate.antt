@@ -25,7 +25,7 @@ use Rattle.launch_safety.proofs.Alone.{leading}
 use Rattle.launch_safety.specs.Fitting.{held_in}
 use Rattle.script_semantics.specs.Round.{clock_reading, round_tasks}
 use Rattle.script_semantics.specs.Script.{Obeys}
-use Rattle.script_semantics.specs.Settling.{AsksNothing, DrainsIn, IsFreeTerm, IsQuiet, Settles, Walks, WalksOn, calmed, campaign_tasks, restart_tasks}
+use Rattle.script_semantics.specs.Settling.{AsksNothing, DrainsIn, IsFreeTerm, IsQuiet, Settles, Walks, WalksOn, cleared, campaign_tasks, restart_tasks}
 use Rattle.script_semantics.specs.Parts.{Then}
 use Rattle.script_semantics.specs.Situation.{Performs, Situation, Task, Do, after_turn, delivered, first_situation}
 use Rattle.run_outcome.proofs.SomeDaily.{applied_end, applied_none, applied_start, call_asked, call_row, daily, idle, now, opened, opens, over, rest_asked, sound, start_asked, today}
@@ -183,7 +183,7 @@ drained book situation has = record {
         rows_are = subst (λ (s : State). AppliesAll daily s.kept.rows s.learned (over ∷ [])) (sym has.state_is) applied_end;
         rests = rest_asked;
       };
-      level = λ other member. let first : other ≡ 0 = omega (arith, member) in rw first refl;
+      caught_up = λ other member. let first : other ≡ 0 = omega (arith, member) in rw first refl;
     };
     stays = record { none = refl; is = refl };
   };
@@ -229,8 +229,8 @@ first_has = record {
 restarted : Performed [] first (restart_tasks 1 first) new [] None
 restarted = performs_none [] first new [] None first_has
 
-calmed_has : Has restarted.rows (calmed restarted.after) new [] None
-calmed_has = record {
+cleared_has : Has restarted.rows (cleared restarted.after) new [] None
+cleared_has = record {
   legal = restarted.has.legal;
   of_book = restarted.has.of_book;
   state_is = restarted.has.state_is;
@@ -243,8 +243,8 @@ calmed_has = record {
   done = λ who. refl;
 }
 
-led : Performed restarted.rows (calmed restarted.after) (Do 0 Campaign ∷ []) (leading daily [] []) [] None
-led = performs_one restarted.rows (calmed restarted.after) Campaign new (leading daily [] []) [] [] None None leads calmed_has
+led : Performed restarted.rows (cleared restarted.after) (Do 0 Campaign ∷ []) (leading daily [] []) [] None
+led = performs_one restarted.rows (cleared restarted.after) Campaign new (leading daily [] []) [] [] None None leads cleared_has
 
 launched : Drained 3 (restarted.rows ++ led.rows) led.after
 launched = launches (restarted.rows ++ led.rows) led.after led.has
@@ -255,7 +255,7 @@ some_rows = restarted.rows ++ (led.rows ++ launched.rows)
 settles : Settles 1 daily now first some_rows launched.after
 settles = record {
   front = restarted.rows;
-  middle = calmed restarted.after;
+  middle = cleared restarted.after;
   back = led.rows ++ launched.rows;
   parts = refl;
   one = record {

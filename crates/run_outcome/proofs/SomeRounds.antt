@@ -205,7 +205,7 @@ quiet book situation k votes entries held has applied = record {
     rows_are = subst (λ (s : State). AppliesAll brief s.kept.rows s.learned (idle (suc k) ∷ [])) (sym has.state_is) applied;
     rests = rest_asked k;
   };
-  level = λ other member. let first : other ≡ 0 = omega (arith, member) in rw first refl;
+  caught_up = λ other member. let first : other ≡ 0 = omega (arith, member) in rw first refl;
 }
 
 -- a launch of the minute, from its start on

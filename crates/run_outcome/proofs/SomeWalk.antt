@@ -15,13 +15,13 @@ use Rattle.launch_safety.proofs.Alone.{leading}
 use Rattle.script_semantics.specs.Parts.{Then}
 use Rattle.script_semantics.specs.Round.{round_tasks}
 use Rattle.script_semantics.specs.Script.{ArePartsOf, Obeys}
-use Rattle.script_semantics.specs.Settling.{IsNextMinute, Settles, Walks, WalksIn, WalksOn, calmed, restart_tasks}
+use Rattle.script_semantics.specs.Settling.{IsNextMinute, Settles, Walks, WalksIn, WalksOn, cleared, restart_tasks}
 use Rattle.script_semantics.specs.Situation.{Situation, Task, Do, first_situation}
 use Rattle.script_semantics.proofs.ArmsLemmas.{performs_unarmed}
 use Rattle.script_semantics.proofs.TurnLemmas.{as_many}
 use Rattle.run_outcome.specs.Readings.{IsGraceLong, script_turns}
 use Rattle.launch_safety.specs.Readings.{AreTurnsBy}
-use Rattle.run_outcome.proofs.DrainLemmas.{IsCalm, played, round_by}
+use Rattle.run_outcome.proofs.DrainLemmas.{KeepsTime, played, round_by}
 use Rattle.run_outcome.proofs.PartLemmas.{Comes, latest_by, performs, rises}
 use Rattle.run_outcome.proofs.SomeMoves.{Has, call_row, leads, new, waits_still}
 use Rattle.run_outcome.proofs.SomeRounds.{Launched, Performed, Rounded, launches, performs_none, performs_one, tick_tasks, ticks, wants_start}
@@ -75,22 +75,22 @@ has_turns =
     let one : length (round_tasks 1 brief.window (minute 0) begun) ≡ 1 = ap (λ (tasks : List Task). length tasks) (tick_tasks [] begun new [] 0 (lit< tt) begun_has) in
     omega (arith, count, one)
 
-calm : IsCalm (minute 0) ticked.rows ticked.after
-calm =
+timely : KeepsTime (minute 0) ticked.rows ticked.after
+timely =
     played 1 (minute 0) (round_tasks 1 brief.window (minute 0) begun) begun ticked.rows ticked.after
     (round_by 1 brief.window (minute 0) (minute 0) begun (λ who. refl) (omega (arith, ints)) (omega (arith, ints))) (λ who. refl) ticked.performs
 
 latest : ticked.after.latest ≡ minute 0
 latest =
     let comes : Comes 1 begun ticked.rows ticked.after = performs 1 (round_tasks 1 brief.window (minute 0) begun) begun ticked.rows ticked.after ticked.performs in
-    let low = latest_by (minute 0) (minute 0) ticked.rows calm.by (omega (arith, ints)) in
+    let low = latest_by (minute 0) (minute 0) ticked.rows timely.by (omega (arith, ints)) in
     let high = rises (minute 0) ticked.rows in
     comes.latest ∙ omega (arith, ints, low, high)
 
 -- ---- settling
 
-calmed_has : (book : List Row) (situation : Situation) (state : State) (held : List SchedRow) → Has book situation state held None → Has book (calmed situation) state held None
-calmed_has book situation state held has = record {
+cleared_has : (book : List Row) (situation : Situation) (state : State) (held : List SchedRow) → Has book situation state held None → Has book (cleared situation) state held None
+cleared_has book situation state held has = record {
   legal = has.legal;
   of_book = has.of_book;
   state_is = has.state_is;
@@ -109,10 +109,10 @@ none_stopped = rw (ticked.has.runs) refl
 restarted : Performed ticked.rows ticked.after (restart_tasks 1 ticked.after) new [] None
 restarted = subst (λ tasks. Performed ticked.rows ticked.after tasks new [] None) (sym none_stopped) (performs_none ticked.rows ticked.after new [] None ticked.has)
 
-led : Performed (ticked.rows ++ restarted.rows) (calmed restarted.after) (Do 0 Campaign ∷ []) (leading brief [] []) [] None
+led : Performed (ticked.rows ++ restarted.rows) (cleared restarted.after) (Do 0 Campaign ∷ []) (leading brief [] []) [] None
 led =
-    performs_one (ticked.rows ++ restarted.rows) (calmed restarted.after) Campaign new (leading brief [] []) [] [] None None leads
-    (calmed_has (ticked.rows ++ restarted.rows) restarted.after new [] restarted.has)
+    performs_one (ticked.rows ++ restarted.rows) (cleared restarted.after) Campaign new (leading brief [] []) [] [] None None leads
+    (cleared_has (ticked.rows ++ restarted.rows) restarted.after new [] restarted.has)
 
 first : Launched ((ticked.rows ++ restarted.rows) ++ led.rows) led.after 0 []
 first = launches ((ticked.rows ++ restarted.rows) ++ led.rows) led.after 0 [] [] [] (lit< tt) refl refl refl led.has
@@ -123,7 +123,7 @@ settling_rows = restarted.rows ++ (led.rows ++ first.drained.rows)
 settles : Settles 1 brief (minute 0) ticked.after settling_rows first.drained.after
 settles = record {
   front = restarted.rows;
-  middle = calmed restarted.after;
+  middle = cleared restarted.after;
   back = led.rows ++ first.drained.rows;
   parts = refl;
   one = record {
@@ -252,7 +252,7 @@ some_walk = (
   due 0 (lit< tt),
   due 1 (lit< tt),
   omega (arith, ints),
-  calm.by,
+  timely.by,
   has_turns,
   few_rows,
   second.drained.has.posted_are,

@@ -104,8 +104,8 @@ module _ (n : ℕ) (table : Table) (rows : List Row) (few : n ≤ 7) (legal : Is
     up =
         let rose = rises n table asked.front (asked.row ∷ drained.mid) asker few upto_legal all_go in
         let learned = asked.learned in
-        let level = quiet.level asker asker_in in
-        omega (arith, rose, learned, level)
+        let caught_up = quiet.caught_up asker asker_in in
+        omega (arith, rose, learned, caught_up)
 
     upto_log : (some : List Entry) × IsLog n (votes_in upto) some
     upto_log = book_log n table upto few upto_legal
@@ -264,6 +264,6 @@ module _ (n : ℕ) (table : Table) (rows : List Row) (few : n ≤ 7) (legal : Is
           let rose = rises n table (upto one at now first) less who few ask_legal (go_back (upto one at now first) less go_on) in
           let learned : prefix_of ((standing_after n (first_rows table) (upto one at now first ++ less)).replicas who) ≡ length second.before =
           subst (λ some. prefix_of ((standing_after n (first_rows table) some).replicas who) ≡ length second.before) front ask.learned in
-          let level = (quiet one at now first).level who (asker_in other date later_now second) in
+          let caught_up = (quiet one at now first).caught_up who (asker_in other date later_now second) in
           let low = below one at now first in
-          omega (arith, rose, learned, level, low)
+          omega (arith, rose, learned, caught_up, low)

@@ -31,7 +31,7 @@ led_until members table who above to after ends =
     record {
       leads = ends.led.leads;
       faultless = ends.led.faultless;
-      quiet = record { free = quiet.free; answered = quiet.answered; rests = asks; level = quiet.level };
+      quiet = record { free = quiet.free; answered = quiet.answered; rests = asks; caught_up = quiet.caught_up };
     }
 
 walked_in : (minutes members : ℕ) (table : Table) (who : ℕ) (above to : ℤ) (book rows : List Row) (situation after : Situation) → IsInWindow table.window to → table.window.from.0 ≤ℤ above → above ≤ℤ to

@@ -127,13 +127,13 @@ module _ (n : ℕ) (table : Table) (script : List Command) (rows : List Row) (ob
       let settling = int_min here.latest last in
       let latest = latest_least at from by in
       let low : settling ≤ℤ at = omega (arith, ints, clamps, latest) in
-      let calm = settles_by n table at settling here walk.front walk.middle from low walk.one in
+      let timely = settles_by n table at settling here walk.front walk.middle from low walk.one in
       let quiet = settled n table settling here walk.middle walk.front walk.one in
       let there = goes_on n table obeyed.obeys.front walk.front here walk.middle of_script (settles_come n table settling here walk.front walk.middle walk.one) in
       subst (λ some. Passes n table at some)
       (append_assoc obeyed.obeys.front walk.front walk.back ∙ ap (λ some. obeyed.obeys.front ++ some) (sym walk.parts) ∙ sym obeyed.obeys.parts)
       (walks_past walk.two.0 n table (coordinator n here) quiet.0 settling last at (obeyed.obeys.front ++ walk.front) walk.back walk.middle obeyed.after from low high there
-      (longer at obeyed.obeys.front walk.front by calm.by) calm.right quiet.1.rests walk.two.1)
+      (longer at obeyed.obeys.front walk.front by timely.by) timely.right quiet.1.rests walk.two.1)
 
 pub each_ended : (n : ℕ) (table : Table) (script : List Command) (rows : List Row) (log : List Entry) (job : ℕ) (at : ℤ) → n ≤ 7 → IsLegal n table rows → Obeys n table script rows → IsLog n (votes_in rows) log
     → IsJobDue table job at → HasStart table log job at × (kind : Kind) × HasEnd table log job at kind

@@ -16,7 +16,7 @@ use Rattle.history.specs.Some.{no_jobs}
 use Rattle.history.specs.declared.turn.Cause.TheVariants as cause
 use Rattle.history.specs.declared.turn.Turn.TheVariants.{Did}
 use Rattle.script_semantics.specs.Script.{Obeys}
-use Rattle.script_semantics.specs.Settling.{IsQuiet, calmed}
+use Rattle.script_semantics.specs.Settling.{IsQuiet, cleared}
 use Rattle.script_semantics.specs.Situation.{Situation, after_turns, delivered, first_situation}
 
 abbrev stands_for : Row
@@ -42,7 +42,7 @@ is_legal (suc number) row is = absurd cc
 
 -- before the turn, and after it
 abbrev settled_first : Situation
-settled_first = calmed (delivered 0 (first_situation 1 no_jobs))
+settled_first = cleared (delivered 0 (first_situation 1 no_jobs))
 
 abbrev led : Situation
 led = delivered 0 (after_turns 1 settled_first some_rows)
@@ -60,7 +60,7 @@ is_quiet = record {
     rows_are = refl;
     rests = ((λ job at may. nothing_found job may.is_row), (λ job at takes. nothing_found job takes.is_row));
   };
-  level = λ other member. let first : other ≡ 0 = omega arith in rw first refl;
+  caught_up = λ other member. let first : other ≡ 0 = omega arith in rw first refl;
 }
 
 pub obeys : Obeys 1 no_jobs [] some_rows

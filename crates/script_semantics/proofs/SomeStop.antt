@@ -22,7 +22,7 @@ use Rattle.history.specs.declared.turn.Turn.TheVariants.{Did, Stopped, Restarted
 use Rattle.history.proofs.Turns.{AllFollow, legal_append}
 use Rattle.script_semantics.specs.Arms.{StopsInStep, armed_by}
 use Rattle.script_semantics.specs.Script.{ArePartsOf, Obeys}
-use Rattle.script_semantics.specs.Settling.{IsQuiet, Walks, calmed}
+use Rattle.script_semantics.specs.Settling.{IsQuiet, Walks, cleared}
 use Rattle.script_semantics.specs.Situation.{Situation, after_turns, delivered, first_situation}
 
 abbrev row_of : Turn → Row
@@ -76,7 +76,7 @@ abbrev started : Situation
 started = delivered 0 (after_turns 1 stopped (starts ∷ []))
 
 abbrev led : Situation
-led = delivered 0 (after_turns 1 (calmed started) (stands ∷ []))
+led = delivered 0 (after_turns 1 (cleared started) (stands ∷ []))
 
 nothing_found : {X : Type 0} {x : X} (k : ℕ) → slice_get [] k ≡ Some x → ⊥
 nothing_found k is = cc
@@ -112,7 +112,7 @@ is_quiet = record {
     rows_are = refl;
     rests = ((λ job at may. nothing_found job may.is_row), (λ job at takes. nothing_found job takes.is_row));
   };
-  level = λ other member. let first : other ≡ 0 = omega arith in rw first refl;
+  caught_up = λ other member. let first : other ≡ 0 = omega arith in rw first refl;
 }
 
 walked : Walks 1 no_jobs (pos 0) stopped (starts ∷ stands ∷ []) led
@@ -124,7 +124,7 @@ walked = record {
   parts = refl;
   one = record {
     front = starts ∷ [];
-    middle = calmed started;
+    middle = cleared started;
     back = stands ∷ [];
     parts = refl;
     one = record {

@@ -7,7 +7,7 @@ use Rattle.due_set.proofs.Rising.{Contains-cases, Contains-none}
 use Rattle.history.specs.Book.{Row, Standing, after_row, with_fact}
 use Rattle.history.specs.declared.turn.Turn.TheVariants.{Restarted}
 use Rattle.script_semantics.specs.Commands.{Plain}
-use Rattle.script_semantics.specs.Settling.{calmed, coordinator, restart_tasks}
+use Rattle.script_semantics.specs.Settling.{cleared, coordinator, restart_tasks}
 use Rattle.script_semantics.specs.Situation.{AreTurnsFor, Situation, Task, Restart, after_turn, after_turns}
 use Rattle.script_semantics.proofs.ListLemmas.{in_range}
 
@@ -95,7 +95,7 @@ same_states members situation rows turns = (starts members situation.standing.ru
 
 -- the coordinator is chosen among the same states, before those that are stopped start and after it
 pub same_coordinator : (members : ℕ) (situation : Situation) (rows : List Row) (after : Situation)
-    → Plain members (restart_tasks members) calmed situation rows after → coordinator members after ≡ coordinator members situation
+    → Plain members (restart_tasks members) cleared situation rows after → coordinator members after ≡ coordinator members situation
 same_coordinator members situation rows after parts =
     let states : after.standing.replicas ≡ situation.standing.replicas =
     ap (λ (s : Situation). s.standing.replicas) parts.two.is ∙ ap (λ (s : Situation). s.standing.replicas) parts.one.is

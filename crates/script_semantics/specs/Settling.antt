@@ -50,7 +50,7 @@ pub record IsQuiet (members : ℕ) (table : Table) (who : ℕ) (at : ℤ) (situa
   pub free : IsFreeTerm (prefix_of (situation.standing.replicas who)) (situation.standing.replicas who).term
   pub answered : situation.standing.waits who ≡ None
   pub rests : AsksNothing table at (situation.standing.replicas who)
-  pub level : (other : ℕ) → other < members → prefix_of (situation.standing.replicas other) ≡ prefix_of (situation.standing.replicas who)
+  pub caught_up : (other : ℕ) → other < members → prefix_of (situation.standing.replicas other) ≡ prefix_of (situation.standing.replicas who)
 
 -- ---- draining
 
@@ -93,8 +93,8 @@ restart_tasks members situation =
     flat_map (λ who. if situation.standing.runs who then [] else Restart who ∷ []) (range_with_len 0 members)
 
 -- no letter waits or is lost, each clock is right, each call is answered, and no disk is armed
-abbrev pub calmed : Situation → Situation
-calmed situation = record situation { mails = λ who. []; cuts = []; skews = λ who. pos 0; fates = λ who. fate.Done; arms = λ who. None }
+abbrev pub cleared : Situation → Situation
+cleared situation = record situation { mails = λ who. []; cuts = []; skews = λ who. pos 0; fates = λ who. fate.Done; arms = λ who. None }
 
 -- the coordinator stands for leader, and rounds follow until it is quiet
 abbrev pub IsLedToQuiet : ℕ → Table → (at : ℤ) → Situation → List Row → Situation → Type 0
@@ -104,7 +104,7 @@ IsLedToQuiet members table at situation =
 
 -- **Settling at an instant**: all start that are stopped, faults end, and rounds follow until it is quiet.
 abbrev pub Settles : ℕ → Table → (at : ℤ) → Situation → List Row → Situation → Type 0
-Settles members table at = Then (Plain members (restart_tasks members) calmed) (IsLedToQuiet members table at)
+Settles members table at = Then (Plain members (restart_tasks members) cleared) (IsLedToQuiet members table at)
 
 -- ---- walking
 

@@ -26,7 +26,7 @@ ghost use Rattle.script_semantics.specs.Commands.{arrival_tasks, each_once, from
 ghost use Rattle.script_semantics.specs.Free.{is_turn_of};
 ghost use Rattle.script_semantics.specs.Round.{clock_reading, round_tasks};
 ghost use Rattle.script_semantics.specs.Script.{IsPartOf, Obeys};
-ghost use Rattle.script_semantics.specs.Settling.{AsksNothingUntil, Drains, IsNextMinute, IsQuiet, Settles, Walks, calmed, coordinator, restart_tasks};
+ghost use Rattle.script_semantics.specs.Settling.{AsksNothingUntil, Drains, IsNextMinute, IsQuiet, Settles, Walks, cleared, coordinator, restart_tasks};
 ghost use Rattle.script_semantics.specs.Situation.{AreTurnsFor, Armed, Does, IsTurnFor, Performs, Situation, Task, Arrive, Do, Restart, Stop, after_turn, after_turns, first_situation, letters_for, reaches};
 
 /// A clock reads a minute of the window, however far it is ahead or behind; and where it is right within the window, it reads
@@ -368,8 +368,8 @@ pub fn settling_starts_all_that_are_stopped()
     ensures states { (members : ℕ) (situation : Situation) (rows : List Row)
         → AreTurnsFor members situation (restart_tasks members situation) rows
         → (after_turns members situation rows).standing.replicas ≡ situation.standing.replicas }
-    ensures faults { (situation : Situation) (who : ℕ) → ((calmed situation).mails who ≡ []) × ((calmed situation).cuts ≡ [])
-        × ((calmed situation).skews who ≡ pos 0) × ((calmed situation).fates who ≡ fate.Done) × ((calmed situation).arms who ≡ None) }
+    ensures faults { (situation : Situation) (who : ℕ) → ((cleared situation).mails who ≡ []) × ((cleared situation).cuts ≡ [])
+        × ((cleared situation).skews who ≡ pos 0) × ((cleared situation).fates who ≡ fate.Done) × ((cleared situation).arms who ≡ None) }
 {}
 
 /// After settling each replica runs.

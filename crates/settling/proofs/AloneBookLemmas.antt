@@ -25,21 +25,21 @@ use Rattle.history.specs.declared.turn.CallRow.{CallRow}
 use Rattle.history.specs.declared.turn.Cause.TheVariants.{Campaign}
 use Rattle.history.specs.declared.turn.Turn.TheVariants.{Did}
 use Rattle.history.proofs.Turns.{AllFollow}
-use Rattle.synchronous_rounds.specs.Calm.{Calm, IsAdvised, calm_round}
+use Rattle.synchronous_rounds.specs.Cluster.{Cluster, IsAdvised, cluster_round}
 use Rattle.synchronous_rounds.specs.Flights.{with_base}
 use Rattle.synchronous_rounds.specs.Measure.{rounds_left}
-use Rattle.synchronous_rounds.specs.Ruled.{IsLeading, Progress}
+use Rattle.synchronous_rounds.specs.LedAlone.{IsLeading, Progress}
 use Rattle.script_semantics.specs.Round.{IsRound}
 use Rattle.script_semantics.specs.Settling.{IsFreeTerm, campaign_tasks}
 use Rattle.script_semantics.specs.Situation.{AreTurnsFor, Do, Performs, Situation, after_turn, after_turns, delivered, letters_for, reaches}
 use Rattle.settling.specs.Leads.{GoesDrainRound}
 use Rattle.settling.specs.Rounds.{GoesRound, IsFaultless, StandsForRound}
-use Rattle.settling.specs.Stands.{IsLetterAt, StandsForCalm}
+use Rattle.settling.specs.Stands.{IsLetterAt, StandsForCluster}
 use Rattle.settling.proofs.BookLemmas.{all_follow, stand_after}
-use Rattle.settling.proofs.CalmLemmas.{round_is_calm, round_leaves_no_fault}
+use Rattle.settling.proofs.ClusterLemmas.{round_is_synchronous, round_leaves_no_fault}
 use Rattle.settling.specs.Campaigns.{GoesCampaign}
 use Rattle.settling.specs.Drain.{HasFewerLeft}
-use Rattle.settling.specs.Rest.{IsAtRest}
+use Rattle.settling.specs.Idle.{IsIdleAt}
 use Rattle.settling.proofs.DrainLeadLemmas.{delivers_none}
 use Rattle.settling.specs.Alone.{LeadsItself}
 use Rattle.settling.proofs.NextLemmas.{LeadsOn, StaysSo}
@@ -200,7 +200,7 @@ drain_stands table at book rows situation after leads goes =
 
 -- the situation stands for its replica without a letter, and the answer that waits for it
 stands_alone : (table : Table) (situation : Situation) (waits : Option SchedRow) → situation.standing.waits 0 ≡ waits → situation.mails 0 ≡ []
-    → StandsForCalm 1 (length table.jobs) situation (unheard situation.standing.replicas waits)
+    → StandsForCluster 1 (length table.jobs) situation (unheard situation.standing.replicas waits)
 stands_alone table situation waits same none = record {
   replicas = λ who below. refl;
   waits = λ who below. waits_there who below;
@@ -231,7 +231,7 @@ rest_stays : (table : Table) (at : ℤ) (situation after : Situation) (leads : L
     → IsIntent leads.at.table leads.at.rows at intent.Rest → StandsForRound 1 table at (unheard situation.standing.replicas waits) after
     → StaysSo leads.best leads.at (after.standing.waits 0) (after.standing.replicas 0)
 rest_stays table at situation after leads None none unbound rests one =
-    let before : Calm = unheard situation.standing.replicas None in
+    let before : Cluster = unheard situation.standing.replicas None in
     let advised : IsAdvised 1 leads.at.table at one.advice before = subst (λ t. IsAdvised 1 t at one.advice before) (sym leads.over) one.advised in
     let stays = round_stays leads.best leads.at at situation.standing.replicas one.advice one.answers leads.leading unbound rests advised (one.answered 0 (omega arith)) in
     subst (λ w. StaysSo leads.best leads.at w (after.standing.replicas 0)) (one.stands.waits 0 (omega arith))
@@ -243,11 +243,11 @@ round_comes_to : (table : Table) (at : ℤ) (book rows : List Row) (situation af
 round_comes_to table at book rows situation after leads goes =
     let state : State = situation.standing.replicas 0 in
     let waits : Option SchedRow = situation.standing.waits 0 in
-    let before : Calm = unheard situation.standing.replicas waits in
+    let before : Cluster = unheard situation.standing.replicas waits in
     let round = drain_is_round table at book rows situation after leads goes in
-    let stands : StandsForCalm 1 (length table.jobs) situation before = stands_alone table situation waits refl leads.unheard in
-    let one : StandsForRound 1 table at before after = round_is_calm 1 table at book rows situation after before round stands in
-    let next : Calm = calm_round 1 at one.advice one.answers before in
+    let stands : StandsForCluster 1 (length table.jobs) situation before = stands_alone table situation waits refl leads.unheard in
+    let one : StandsForRound 1 table at before after = round_is_synchronous 1 table at book rows situation after before round stands in
+    let next : Cluster = cluster_round 1 at one.advice one.answers before in
     let advised : IsAdvised 1 leads.at.table at one.advice before = subst (λ t. IsAdvised 1 t at one.advice before) (sym leads.over) one.advised in
     let sound : IsSound leads.at.table = subst IsSound (sym leads.over) goes.sound in
     let went = round_alone leads.best leads.at sound at waits situation.standing.replicas one.advice one.answers leads.leading leads.answers advised (one.answered 0 (omega arith)) in
@@ -283,7 +283,7 @@ round_leads table at book rows situation after leads goes =
     }
 
 pub round_brings_nearer : (table : Table) (at : ℤ) (book rows : List Row) (situation after : Situation) → LeadsItself table situation → GoesDrainRound 1 table 0 at book rows situation after
-    → IsAtRest table 0 at situation ⊎ HasFewerLeft table 0 situation after
+    → IsIdleAt table 0 at situation ⊎ HasFewerLeft table 0 situation after
 round_brings_nearer table at book rows situation after leads goes =
     elim came.on.comes [
       | inl less ↦ inr (λ before later before_is later_is. fewer less before later before_is later_is)
@@ -319,7 +319,7 @@ round_brings_nearer table at book rows situation after leads goes =
         (subst (λ t. rounds_left t.window.until.0 came.on.later.rows leads.best (after.standing.waits 0) new < rounds_left t.window.until.0 leads.at.rows leads.best (situation.standing.waits 0) old) leads.over less))))
 
 pub rest_goes_on : (table : Table) (at : ℤ) (book rows : List Row) (situation after : Situation) → LeadsItself table situation → GoesDrainRound 1 table 0 at book rows situation after
-    → IsAtRest table 0 at situation → IsAtRest table 0 at after
+    → IsIdleAt table 0 at situation → IsIdleAt table 0 at after
 rest_goes_on table at book rows situation after leads goes rest = record {
   free = free_at (with_base stays.base leads.at) leads.best (after.standing.replicas 0) unbound stays.leading;
   answered = stays.uncalled;

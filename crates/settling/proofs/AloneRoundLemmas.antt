@@ -12,17 +12,17 @@ use Rattle.step_spec.specs.Folds.{after_acts, sent_to}
 use Rattle.step_spec.specs.State.{State}
 use Rattle.step_spec.specs.Step.{Answer, Plan, Tick, step}
 use Rattle.synchronous_rounds.specs.Begins.{proposal_of}
-use Rattle.synchronous_rounds.specs.Calm.{Advice, Calm, HeardLetter, IsAdvised, calls_at, calm_round, letter_from}
+use Rattle.synchronous_rounds.specs.Cluster.{Advice, Cluster, HeardLetter, IsAdvised, calls_at, cluster_round, letter_from}
 use Rattle.synchronous_rounds.specs.Flights.{learned_by}
 use Rattle.synchronous_rounds.specs.Rounds.{IsAnswerTo}
-use Rattle.synchronous_rounds.specs.Ruled.{IsLeading, Progress}
+use Rattle.synchronous_rounds.specs.LedAlone.{IsLeading, Progress}
 use Rattle.synchronous_rounds.proofs.BeginLemmas.{next_entry, proposing}
 use Rattle.settling.specs.Alone.{IfWaits}
 use Rattle.settling.proofs.NextLemmas.{LeadsOn, StaysSo, answer_alone, ended_leads, tick_alone, tick_stays}
 use Rattle.settling.proofs.StepLemmas.{alone, learns_it, untold_proposal}
 
 -- the replicas between two rounds, of which the first has no letter, and this answer waits for it
-abbrev pub unheard : (ℕ → State) → Option SchedRow → Calm
+abbrev pub unheard : (ℕ → State) → Option SchedRow → Cluster
 unheard replicas waits = record { replicas = replicas; waits = λ who. waits; mails = λ who. [] }
 
 -- nothing is said, so there is no letter
@@ -30,14 +30,14 @@ silent_step : (acts : List Act) (more : List HeardLetter) → sent_to 0 0 acts �
 silent_step acts more none = rw none refl
 
 -- it leads itself after the round, and no letter waits for it
-pub record Went (best : List Vote) (at : Progress) (now : ℤ) (waits : Option SchedRow) (state : State) (answered : Option SchedRow) (next : Calm) : Type 0 where
+pub record Went (best : List Vote) (at : Progress) (now : ℤ) (waits : Option SchedRow) (state : State) (answered : Option SchedRow) (next : Cluster) : Type 0 where
   pub on : LeadsOn best at now waits state answered (next.replicas 0)
   pub unheard_then : next.mails 0 ≡ []
 
 pub round_alone : (best : List Vote) (at : Progress) (sound : IsSound at.table) (now : ℤ) (waits : Option SchedRow) (replicas : ℕ → State) (advice : ℕ → Advice) (answers : ℕ → Option SchedRow)
     → IsLeading best None at (replicas 0) → IfWaits best at waits → IsAdvised 1 at.table now advice (unheard replicas waits)
     → IsAnswerTo (calls_at 1 now advice (unheard replicas waits) 0) (answers 0)
-    → Went best at now waits (replicas 0) (answers 0) (calm_round 1 now advice answers (unheard replicas waits))
+    → Went best at now waits (replicas 0) (answers 0) (cluster_round 1 now advice answers (unheard replicas waits))
 round_alone best at sound now None replicas advice answers leading able advised answered =
     let plan : Plan = (advice 0).plan in
     let acts : List Act = step alone (Tick now plan) (replicas 0) in
@@ -67,7 +67,7 @@ round_alone best at sound now (Some row) replicas advice answers leading able ad
 pub round_stays : (best : List Vote) (at : Progress) (now : ℤ) (replicas : ℕ → State) (advice : ℕ → Advice) (answers : ℕ → Option SchedRow)
     → IsLeading best None at (replicas 0) → votes_from at.prefix best ≡ [] → IsIntent at.table at.rows now intent.Rest → IsAdvised 1 at.table now advice (unheard replicas None)
     → IsAnswerTo (calls_at 1 now advice (unheard replicas None) 0) (answers 0)
-    → StaysSo best at (answers 0) ((calm_round 1 now advice answers (unheard replicas None)).replicas 0)
+    → StaysSo best at (answers 0) ((cluster_round 1 now advice answers (unheard replicas None)).replicas 0)
 round_stays best at now replicas advice answers leading unbound rests advised answered =
     let planned = advised.planned 0 (omega arith) in
     tick_stays best at now (advice 0).plan (replicas 0) (answers 0) leading planned.0.0 planned.0.1 unbound rests answered

@@ -16,7 +16,7 @@ use Rattle.step_spec.specs.Propose.{follow_intent, is_long, lead_on, proposal, p
 use Rattle.step_spec.specs.State.{Identity, State, prefix_of}
 use Rattle.step_spec.specs.Step.{Plan, Tick, step}
 use Rattle.agreement.specs.Transition.{identity_of}
-use Rattle.synchronous_rounds.specs.Calm.{Advice, Calm, before_tick, calls_at, calm_round}
+use Rattle.synchronous_rounds.specs.Cluster.{Advice, Cluster, before_tick, calls_at, cluster_round}
 use Rattle.synchronous_rounds.specs.Rounds.{IsAnswerTo}
 use Rattle.synchronous_rounds.proofs.OutcomeLemmas.{no_call_rebase, no_call_wait}
 use Rattle.synchronous_rounds.proofs.RoundLemmas.{round_after}
@@ -61,12 +61,12 @@ pub no_answer_to : (calls : List SchedRow) (waits : Option SchedRow) → calls �
 no_answer_to calls waits none is = subst (λ rows. IsAnswerTo rows waits) none is
 
 -- one that is a candidate after the round has no answer waiting for it
-pub candidate_alone : (members : ℕ) (now : ℤ) (advice : ℕ → Advice) (answers : ℕ → Option SchedRow) (calm : Calm) (who : ℕ) (ballot first heard : ℕ) (best : List Vote)
-    → ((calm_round members now advice answers calm).replicas who).term ≡ Candidate ballot first heard best
-    → IsAnswerTo (calls_at members now advice calm who) (answers who) → answers who ≡ None
-candidate_alone members now advice answers calm who ballot first heard best is answered =
+pub candidate_alone : (members : ℕ) (now : ℤ) (advice : ℕ → Advice) (answers : ℕ → Option SchedRow) (cluster : Cluster) (who : ℕ) (ballot first heard : ℕ) (best : List Vote)
+    → ((cluster_round members now advice answers cluster).replicas who).term ≡ Candidate ballot first heard best
+    → IsAnswerTo (calls_at members now advice cluster who) (answers who) → answers who ≡ None
+candidate_alone members now advice answers cluster who ballot first heard best is answered =
     let self = identity_of members who in
-    let before = before_tick members advice calm who in
-    let stands : IsCandidacy ((calm_round members now advice answers calm).replicas who).term = subst IsCandidacy (sym is) tt in
-    no_answer_to (calls_at members now advice calm who) (answers who)
-    (no_call_step self now (advice who).plan before (subst (λ (s : State). IsCandidacy s.term) (round_after members now advice answers calm who) stands)) answered
+    let before = before_tick members advice cluster who in
+    let stands : IsCandidacy ((cluster_round members now advice answers cluster).replicas who).term = subst IsCandidacy (sym is) tt in
+    no_answer_to (calls_at members now advice cluster who) (answers who)
+    (no_call_step self now (advice who).plan before (subst (λ (s : State). IsCandidacy s.term) (round_after members now advice answers cluster who) stands)) answered

@@ -8,7 +8,7 @@ use Rattle.term_core.specs.declared.term.Term.TheVariants.{Follower, Candidate, 
 use Rattle.history.specs.Book.{Row, Standing, standing_after}
 use Rattle.history.specs.Legal.{IsLegal}
 use Rattle.history.specs.declared.turn.Cause.TheVariants.{Campaign}
-use Rattle.synchronous_rounds.specs.Calm.{Calm}
+use Rattle.synchronous_rounds.specs.Cluster.{Cluster}
 use Rattle.synchronous_rounds.specs.Made.{after_campaign}
 use Rattle.script_semantics.specs.Parts.{Plays, Then}
 use Rattle.script_semantics.specs.Round.{IsRound, round_tasks}
@@ -16,9 +16,9 @@ use Rattle.script_semantics.specs.Settling.{campaign_tasks}
 use Rattle.script_semantics.specs.Situation.{Performs, Situation, Task, Do, after_turns, delivered, letters_for, reaches}
 use Rattle.settling.specs.Leads.{GoesDrainRound}
 use Rattle.settling.specs.Rounds.{GoesOnWithin, GoesRound, IsFaultless, IsWithinBounds}
-use Rattle.settling.specs.Stands.{IsLetterAt, StandsForCalm}
+use Rattle.settling.specs.Stands.{IsLetterAt, StandsForCluster}
 use Rattle.settling.proofs.BookLemmas.{front_legal, stand_after}
-use Rattle.settling.proofs.CalmLemmas.{round_leaves_no_fault}
+use Rattle.settling.proofs.ClusterLemmas.{round_leaves_no_fault}
 use Rattle.settling.proofs.RoundsLemmas.{front_bounds}
 use Rattle.settling.specs.Campaigns.{GoesCampaign, unanswered}
 use Rattle.settling.proofs.TurnLemmas.{campaign_leaves_no_fault, campaign_stands}
@@ -37,13 +37,13 @@ nothing_performed members situation after rows performs =
     performs.is ∙ ap (λ list. delivered (length situation.standing.posted) (after_turns members situation list)) performs.turns
 
 -- what stood stands where no turn was taken
-nothing_stands : (members jobs : ℕ) (situation after : Situation) (rows : List Row) (calm : Calm) → Performs members [] situation rows after → StandsForCalm members jobs situation calm → StandsForCalm members jobs after calm
-nothing_stands members jobs situation after rows calm performs there =
-    subst (λ (s : Situation). StandsForCalm members jobs s calm) (sym (nothing_performed members situation after rows performs)) (record {
+nothing_stands : (members jobs : ℕ) (situation after : Situation) (rows : List Row) (cluster : Cluster) → Performs members [] situation rows after → StandsForCluster members jobs situation cluster → StandsForCluster members jobs after cluster
+nothing_stands members jobs situation after rows cluster performs there =
+    subst (λ (s : Situation). StandsForCluster members jobs s cluster) (sym (nothing_performed members situation after rows performs)) (record {
       replicas = there.replicas;
       waits = there.waits;
       mails = λ who below.
-          subst (λ list. AllZip (IsLetterAt members jobs situation.standing.posted who) list (calm.mails who))
+          subst (λ list. AllZip (IsLetterAt members jobs situation.standing.posted who) list (cluster.mails who))
           (sym (ap (λ more. situation.mails who ++ more) (none_join situation who) ∙ append-nil (situation.mails who))) (there.mails who below);
     })
 
@@ -122,12 +122,12 @@ both_stand one two members table book rows situation after parts is =
 -- ---- a round of a drain
 
 -- After its first part the book goes on with the round, and what stands then stands for this.
-pub record AtRound (members : ℕ) (table : Table) (at : ℤ) (calm : Calm) (after : Situation) : Type 0 where
+pub record AtRound (members : ℕ) (table : Table) (at : ℤ) (cluster : Cluster) (after : Situation) : Type 0 where
   pub book : List Row
   pub rows : List Row
   pub situation : Situation
   pub goes : GoesRound members table at book rows situation after
-  pub stands : StandsForCalm members (length table.jobs) situation calm
+  pub stands : StandsForCluster members (length table.jobs) situation cluster
 
 abbrev asked_of : ℕ → Tasks
 asked_of who situation = campaign_tasks who (situation.standing.replicas who).term
@@ -139,9 +139,9 @@ drain_parts members table who at book rows situation after goes =
     (both_stand (asked_of who) (round_tasks members table.window at) members table book rows situation after goes.round goes.standing)
 
 -- where the replica asks for no campaign, the round comes at once
-pub waits_round : (members : ℕ) (table : Table) (who : ℕ) (at : ℤ) (book rows : List Row) (situation after : Situation) (calm : Calm) → GoesDrainRound members table who at book rows situation after
-    → StandsForCalm members (length table.jobs) situation calm → campaign_tasks who (situation.standing.replicas who).term ≡ [] → AtRound members table at calm after
-waits_round members table who at book rows situation after calm goes there none =
+pub waits_round : (members : ℕ) (table : Table) (who : ℕ) (at : ℤ) (book rows : List Row) (situation after : Situation) (cluster : Cluster) → GoesDrainRound members table who at book rows situation after
+    → StandsForCluster members (length table.jobs) situation cluster → campaign_tasks who (situation.standing.replicas who).term ≡ [] → AtRound members table at cluster after
+waits_round members table who at book rows situation after cluster goes there none =
     let parts = drain_parts members table who at book rows situation after goes in
     let performs : Performs members [] situation parts.front parts.middle =
     subst (λ tasks. Performs members tasks situation parts.front parts.middle) none parts.first.round in
@@ -150,14 +150,14 @@ waits_round members table who at book rows situation after calm goes there none 
       rows = parts.back;
       situation = parts.middle;
       goes = parts.second (nothing_fails members situation parts.middle parts.front performs goes.faultless);
-      stands = nothing_stands members (length table.jobs) situation parts.middle parts.front calm performs there;
+      stands = nothing_stands members (length table.jobs) situation parts.middle parts.front cluster performs there;
     }
 
 -- where it asks for one, the round comes after the campaign
-pub campaigns_round : (members : ℕ) (table : Table) (who : ℕ) (at : ℤ) (book rows : List Row) (situation after : Situation) (calm : Calm) → 2 ≤ members → GoesDrainRound members table who at book rows situation after
-    → StandsForCalm members (length table.jobs) situation calm → campaign_tasks who (situation.standing.replicas who).term ≡ Do who Campaign ∷ []
-    → AtRound members table at (after_campaign members who (unanswered who calm)) after
-campaigns_round members table who at book rows situation after calm more goes there one =
+pub campaigns_round : (members : ℕ) (table : Table) (who : ℕ) (at : ℤ) (book rows : List Row) (situation after : Situation) (cluster : Cluster) → 2 ≤ members → GoesDrainRound members table who at book rows situation after
+    → StandsForCluster members (length table.jobs) situation cluster → campaign_tasks who (situation.standing.replicas who).term ≡ Do who Campaign ∷ []
+    → AtRound members table at (after_campaign members who (unanswered who cluster)) after
+campaigns_round members table who at book rows situation after cluster more goes there one =
     let parts = drain_parts members table who at book rows situation after goes in
     let first = parts.first in
     let campaign : GoesCampaign members table who at book parts.front situation parts.middle = record {
@@ -175,18 +175,18 @@ campaigns_round members table who at book rows situation after calm more goes th
       rows = parts.back;
       situation = parts.middle;
       goes = parts.second (campaign_leaves_no_fault members table who at book parts.front situation parts.middle more campaign);
-      stands = campaign_stands members table who at book parts.front situation parts.middle calm more campaign there;
+      stands = campaign_stands members table who at book parts.front situation parts.middle cluster more campaign there;
     }
 
 -- whatever it is, no fault comes of the round
-pub drain_leaves_no_fault : (members : ℕ) (table : Table) (who : ℕ) (at : ℤ) (book rows : List Row) (situation after : Situation) (calm : Calm) → 2 ≤ members → GoesDrainRound members table who at book rows situation after
-    → StandsForCalm members (length table.jobs) situation calm → IsFaultless members after
-drain_leaves_no_fault members table who at book rows situation after calm more goes there = go (situation.standing.replicas who).term refl
+pub drain_leaves_no_fault : (members : ℕ) (table : Table) (who : ℕ) (at : ℤ) (book rows : List Row) (situation after : Situation) (cluster : Cluster) → 2 ≤ members → GoesDrainRound members table who at book rows situation after
+    → StandsForCluster members (length table.jobs) situation cluster → IsFaultless members after
+drain_leaves_no_fault members table who at book rows situation after cluster more goes there = go (situation.standing.replicas who).term refl
   where
-    by_round : (calm : Calm) → AtRound members table at calm after → IsFaultless members after
-    by_round calm here = round_leaves_no_fault members table at here.book here.rows here.situation after calm here.goes here.stands
+    by_round : (cluster : Cluster) → AtRound members table at cluster after → IsFaultless members after
+    by_round cluster here = round_leaves_no_fault members table at here.book here.rows here.situation after cluster here.goes here.stands
 
     go : (term : Term) → (situation.standing.replicas who).term ≡ term → IsFaultless members after
-    go (Follower ended) is = by_round _ (campaigns_round members table who at book rows situation after calm more goes there (ap (campaign_tasks who) is))
-    go (Candidate ballot first heard best) is = by_round calm (waits_round members table who at book rows situation after calm goes there (ap (campaign_tasks who) is))
-    go (Leader ballot best flight) is = by_round calm (waits_round members table who at book rows situation after calm goes there (ap (campaign_tasks who) is))
+    go (Follower ended) is = by_round _ (campaigns_round members table who at book rows situation after cluster more goes there (ap (campaign_tasks who) is))
+    go (Candidate ballot first heard best) is = by_round cluster (waits_round members table who at book rows situation after cluster goes there (ap (campaign_tasks who) is))
+    go (Leader ballot best flight) is = by_round cluster (waits_round members table who at book rows situation after cluster goes there (ap (campaign_tasks who) is))

@@ -5,7 +5,7 @@ use Rattle.std.specs.List.{AllZip, filter, range_with_len, slice_get}
 use Rattle.std.proofs.lemmas.Bool.{cases_Bool, eqb-true}
 use Rattle.std.proofs.lemmas.List.{length-append}
 use Rattle.history.specs.Book.{PostedLetter}
-use Rattle.synchronous_rounds.specs.Calm.{HeardLetter}
+use Rattle.synchronous_rounds.specs.Cluster.{HeardLetter}
 use Rattle.script_semantics.specs.Situation.{Situation, letters_for, reaches}
 use Rattle.settling.specs.Stands.{IsHeardLike, IsLetterAt}
 use Rattle.settling.proofs.PostLemmas.{is_to}

@@ -1,4 +1,4 @@
--- A round of a drain where one replica leads alone: a round and no more, which brings it nearer to rest.
+-- A round of a drain where one replica leads alone: a round and no more, which brings it nearer to being idle.
 use Rattle.std.proofs.Common.{◌≡◌, ℕ, ◌-◌, ◌<◌, List, [], ◌++◌, append-nil, length, Option, None, Some, ℤ, sym, ap, ◌∙◌, inl, inr, ◌⊎◌, arith, subst}
 use Rattle.std.specs.List.{filter, range_with_len, slice_get}
 use Rattle.std.proofs.Math.Path.{fun_ext}
@@ -16,10 +16,10 @@ use Rattle.term_core.specs.declared.flight.Flight.{Flight}
 use Rattle.step_spec.specs.State.{State, prefix_of}
 use Rattle.step_spec.specs.Step.{IsLaunchTable}
 use Rattle.history.specs.Book.{Row, standing_after}
-use Rattle.synchronous_rounds.specs.Calm.{Calm, IsAdvised, calm_round}
+use Rattle.synchronous_rounds.specs.Cluster.{Cluster, IsAdvised, cluster_round}
 use Rattle.synchronous_rounds.specs.Measure.{rounds_left}
 use Rattle.synchronous_rounds.specs.Rounds.{ComesNearer, IsFreeNow, Stage, accepted, answer, asked, free}
-use Rattle.synchronous_rounds.specs.Ruled.{IsLeading, IsRuled, Progress}
+use Rattle.synchronous_rounds.specs.LedAlone.{IsLeading, IsLedAlone, Progress}
 use Rattle.synchronous_rounds.proofs.StageLemmas.{stage_next}
 use Rattle.script_semantics.specs.Parts.{Then}
 use Rattle.script_semantics.specs.Round.{IsRound}
@@ -27,34 +27,34 @@ use Rattle.script_semantics.specs.Settling.{AsksNothing, IsFreeTerm, campaign_ta
 use Rattle.script_semantics.specs.Situation.{Performs, Situation, after_turns, delivered, letters_for, reaches}
 use Rattle.settling.specs.Leads.{GoesDrainRound, LeadsAlone}
 use Rattle.settling.specs.Rounds.{GoesRound, StandsForRound}
-use Rattle.settling.specs.Stands.{StandsForCalm}
+use Rattle.settling.specs.Stands.{StandsForCluster}
 use Rattle.settling.proofs.BookLemmas.{stand_after}
-use Rattle.settling.proofs.CalmLemmas.{round_is_calm}
+use Rattle.settling.proofs.ClusterLemmas.{round_is_synchronous}
 use Rattle.settling.specs.Drain.{HasFewerLeft}
-use Rattle.settling.specs.Rest.{IsAtRest, left_of}
+use Rattle.settling.specs.Idle.{IsIdleAt, left_of}
 
 -- ---- a stage
 
 -- one leads alone at each stage
-pub stage_ruled : (members leader : ℕ) (best : List Vote) (at : Progress) (calm : Calm) → Stage members leader best at calm → IsRuled members leader at.ballot at.prefix calm
-stage_ruled members leader best at calm (free it) = it.free.ruled
-stage_ruled members leader best at calm (answer row it) = it.free.ruled
-stage_ruled members leader best at calm (asked entry waited flight low it asks) = it.ruled
-stage_ruled members leader best at calm (accepted entry waited flight it has) = it.ruled
+pub stage_led_alone : (members leader : ℕ) (best : List Vote) (at : Progress) (cluster : Cluster) → Stage members leader best at cluster → IsLedAlone members leader at.ballot at.prefix cluster
+stage_led_alone members leader best at cluster (free it) = it.free.led_alone
+stage_led_alone members leader best at cluster (answer row it) = it.free.led_alone
+stage_led_alone members leader best at cluster (asked entry waited flight low it asks) = it.led_alone
+stage_led_alone members leader best at cluster (accepted entry waited flight it has) = it.led_alone
 
-pub stage_leads : (members leader : ℕ) (best : List Vote) (at : Progress) (calm : Calm) → Stage members leader best at calm → (flight : Option Flight) × IsLeading best flight at (calm.replicas leader)
-stage_leads members leader best at calm (free it) = (None, it.free.leading)
-stage_leads members leader best at calm (answer row it) = (None, it.free.leading)
-stage_leads members leader best at calm (asked entry waited flight low it asks) = (Some flight, it.proposes.leading)
-stage_leads members leader best at calm (accepted entry waited flight it has) = (Some flight, it.proposes.leading)
+pub stage_leads : (members leader : ℕ) (best : List Vote) (at : Progress) (cluster : Cluster) → Stage members leader best at cluster → (flight : Option Flight) × IsLeading best flight at (cluster.replicas leader)
+stage_leads members leader best at cluster (free it) = (None, it.free.leading)
+stage_leads members leader best at cluster (answer row it) = (None, it.free.leading)
+stage_leads members leader best at cluster (asked entry waited flight low it asks) = (Some flight, it.proposes.leading)
+stage_leads members leader best at cluster (accepted entry waited flight it has) = (Some flight, it.proposes.leading)
 
 pub alone_has_table : (members : ℕ) (table : Table) (who : ℕ) (situation : Situation) → LeadsAlone members table who situation → (rows : List JobRow) × IsLaunchTable table (situation.standing.replicas who) rows
 alone_has_table members table who situation alone =
-    let member = (stage_ruled members who alone.best alone.at alone.calm alone.stage).member in
-    let leading = (stage_leads members who alone.best alone.at alone.calm alone.stage).1 in (
+    let member = (stage_led_alone members who alone.best alone.at alone.cluster alone.stage).member in
+    let leading = (stage_leads members who alone.best alone.at alone.cluster alone.stage).1 in (
       alone.at.rows,
       subst (λ state. IsLaunchTable table state alone.at.rows) (alone.stands.replicas who member)
-          (subst (λ t. IsLaunchTable t (alone.calm.replicas who) alone.at.rows) alone.over leading.launch),
+          (subst (λ t. IsLaunchTable t (alone.cluster.replicas who) alone.at.rows) alone.over leading.launch),
     )
 
 -- ---- nobody stands for leader
@@ -88,12 +88,12 @@ goes_round members table who at book rows situation after alone goes = record {
     parts = goes.round
 
     member : who < members
-    member = (stage_ruled members who alone.best alone.at alone.calm alone.stage).member
+    member = (stage_led_alone members who alone.best alone.at alone.cluster alone.stage).member
 
     none : campaign_tasks who (situation.standing.replicas who).term ≡ []
     none =
         ap (λ (state : State). campaign_tasks who state.term) (sym (alone.stands.replicas who member))
-        ∙ ap (campaign_tasks who) (stage_leads members who alone.best alone.at alone.calm alone.stage).1.is
+        ∙ ap (campaign_tasks who) (stage_leads members who alone.best alone.at alone.cluster alone.stage).1.is
 
     nobody : Performs members [] situation parts.front parts.middle
     nobody = subst (λ tasks. Performs members tasks situation parts.front parts.middle) none parts.one
@@ -138,14 +138,14 @@ fewer_left best at later flight next_flight waits next_waits state next leading 
     subst (λ k. k < left_of until old waits state) (sym after)
     (subst (λ k. rounds_left until later.rows best next_waits next < k) (sym before) less)
 
--- ---- rest
+-- ---- idle
 
-pub free_rests : (members : ℕ) (table : Table) (who : ℕ) (best : List Vote) (far : Progress) (now : ℤ) (calm : Calm) (situation : Situation) → far.table ≡ table → StandsForCalm members (length table.jobs) situation calm → IsFreeNow members who best far calm → votes_from far.prefix best ≡ [] → IsIntent far.table far.rows now Rest → IsAtRest table who now situation
-free_rests members table who best far now calm situation over stands it unbound rests =
-    let member = it.free.ruled.member in
+pub free_rests : (members : ℕ) (table : Table) (who : ℕ) (best : List Vote) (far : Progress) (now : ℤ) (cluster : Cluster) (situation : Situation) → far.table ≡ table → StandsForCluster members (length table.jobs) situation cluster → IsFreeNow members who best far cluster → votes_from far.prefix best ≡ [] → IsIntent far.table far.rows now Rest → IsIdleAt table who now situation
+free_rests members table who best far now cluster situation over stands it unbound rests =
+    let member = it.free.led_alone.member in
     let leading = it.free.leading in
-    let same : calm.replicas who ≡ situation.standing.replicas who = stands.replicas who member in
-    let state = calm.replicas who in
+    let same : cluster.replicas who ≡ situation.standing.replicas who = stands.replicas who member in
+    let state = cluster.replicas who in
     record {
       free = subst (λ (s : State). IsFreeTerm (prefix_of s) s.term) same
           (subst (λ t. IsFreeTerm (prefix_of state) t) (sym leading.is) (ap (λ k. votes_from k best) leading.learned ∙ unbound));
@@ -156,26 +156,26 @@ free_rests members table who best far now calm situation over stands it unbound 
 
 -- ---- a round
 
--- it leads alone after it, and was at rest before it, or fewer are left
+-- it leads alone after it, and was idle before it, or fewer are left
 pub record HasDrained (members : ℕ) (table : Table) (who : ℕ) (at : ℤ) (situation after : Situation) : Type 0 where
   pub alone : LeadsAlone members table who after
-  pub nearer : IsAtRest table who at situation ⊎ HasFewerLeft table who situation after
+  pub nearer : IsIdleAt table who at situation ⊎ HasFewerLeft table who situation after
 
 pub drained : (members : ℕ) (table : Table) (who : ℕ) (at : ℤ) (book rows : List Row) (situation after : Situation) → LeadsAlone members table who situation → GoesRound members table at book rows situation after → HasDrained members table who at situation after
 drained members table who at book rows situation after alone goes =
-    elim (stage_next members who best far at round.advice round.answers calm alone.stage advised (round.answered who member)) [
+    elim (stage_next members who best far at round.advice round.answers cluster alone.stage advised (round.answered who member)) [
       | inl near ↦ record {
-        alone = record { calm = next; best = best; at = near.later; over = near.table ∙ alone.over; stands = round.stands; stage = near.stage };
+        alone = record { cluster = next; best = best; at = near.later; over = near.table ∙ alone.over; stands = round.stands; stage = near.stage };
         nearer = inr (fewer near);
       }
       | inr stays ↦ record {
-        alone = record { calm = next; best = best; at = far; over = alone.over; stands = round.stands; stage = free stays.free };
-        nearer = inl (free_rests members table who best far at calm situation alone.over alone.stands stays.was stays.rested.free stays.rested.rests);
+        alone = record { cluster = next; best = best; at = far; over = alone.over; stands = round.stands; stage = free stays.free };
+        nearer = inl (free_rests members table who best far at cluster situation alone.over alone.stands stays.was stays.rested.free stays.rested.rests);
       }
     ]
   where
-    calm : Calm
-    calm = alone.calm
+    cluster : Cluster
+    cluster = alone.cluster
 
     best : List Vote
     best = alone.best
@@ -183,28 +183,28 @@ drained members table who at book rows situation after alone goes =
     far : Progress
     far = alone.at
 
-    round : StandsForRound members table at calm after
-    round = round_is_calm members table at book rows situation after calm goes alone.stands
+    round : StandsForRound members table at cluster after
+    round = round_is_synchronous members table at book rows situation after cluster goes alone.stands
 
-    next : Calm
-    next = calm_round members at round.advice round.answers calm
+    next : Cluster
+    next = cluster_round members at round.advice round.answers cluster
 
     member : who < members
-    member = (stage_ruled members who best far calm alone.stage).member
+    member = (stage_led_alone members who best far cluster alone.stage).member
 
-    advised : IsAdvised members far.table at round.advice calm
-    advised = subst (λ t. IsAdvised members t at round.advice calm) (sym alone.over) round.advised
+    advised : IsAdvised members far.table at round.advice cluster
+    advised = subst (λ t. IsAdvised members t at round.advice cluster) (sym alone.over) round.advised
 
-    leading : (flight : Option Flight) × IsLeading best flight far (calm.replicas who)
-    leading = stage_leads members who best far calm alone.stage
+    leading : (flight : Option Flight) × IsLeading best flight far (cluster.replicas who)
+    leading = stage_leads members who best far cluster alone.stage
 
-    fewer : ComesNearer members who best far calm next → HasFewerLeft table who situation after
+    fewer : ComesNearer members who best far cluster next → HasFewerLeft table who situation after
     fewer near =
         let leads_on = stage_leads members who best near.later next near.stage in
-        let less = fewer_left best far near.later leading.0 leads_on.0 (calm.waits who) (next.waits who) (calm.replicas who) (next.replicas who)
+        let less = fewer_left best far near.later leading.0 leads_on.0 (cluster.waits who) (next.waits who) (cluster.replicas who) (next.replicas who)
         leading.1 leads_on.1 near.table near.nearer.nearer in
         subst (λ t. HasFewerLeft t who situation after) alone.over
         (subst (λ s. Fewer far.table (situation.standing.waits who) (situation.standing.replicas who) (after.standing.waits who) s) (round.stands.replicas who member)
         (subst (λ w. Fewer far.table (situation.standing.waits who) (situation.standing.replicas who) w (next.replicas who)) (round.stands.waits who member)
         (subst (λ s. Fewer far.table (situation.standing.waits who) s (next.waits who) (next.replicas who)) (alone.stands.replicas who member)
-        (subst (λ w. Fewer far.table w (calm.replicas who) (next.waits who) (next.replicas who)) (alone.stands.waits who member) less))))
+        (subst (λ w. Fewer far.table w (cluster.replicas who) (next.waits who) (next.replicas who)) (alone.stands.waits who member) less))))

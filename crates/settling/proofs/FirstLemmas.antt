@@ -10,14 +10,14 @@ use Rattle.step_spec.specs.State.{promised_in}
 use Rattle.step_spec.specs.Step.{IsLaunchTable}
 use Rattle.history.specs.Book.{Row, Standing, standing_after}
 use Rattle.history.specs.Legal.{IsLegal}
-use Rattle.synchronous_rounds.specs.Calm.{Calm}
+use Rattle.synchronous_rounds.specs.Cluster.{Cluster}
 use Rattle.synchronous_rounds.specs.Campaign.{HasCampaigned}
 use Rattle.synchronous_rounds.specs.Made.{after_campaign, campaigned_at, own_votes}
 use Rattle.synchronous_rounds.proofs.MadeLemmas.{first_made}
 use Rattle.script_semantics.specs.Settling.{coordinator}
 use Rattle.script_semantics.specs.Situation.{Situation}
 use Rattle.script_semantics.proofs.CoordinatorLemmas.{furthest_most, furthest_within}
-use Rattle.settling.specs.Stands.{IsLetterAt, StandsForCalm}
+use Rattle.settling.specs.Stands.{IsLetterAt, StandsForCluster}
 use Rattle.settling.proofs.BookLemmas.{front_legal}
 use Rattle.settling.specs.Campaigns.{GoesCampaign, unanswered}
 use Rattle.settling.specs.Within.{LeadsWithin}
@@ -26,10 +26,10 @@ use Rattle.settling.proofs.TurnLemmas.{campaign_stands}
 use Rattle.history.proofs.Standings.{fact_here}
 
 -- what a situation stands for in which no letter waits
-abbrev unread : Situation → Calm
+abbrev unread : Situation → Cluster
 unread situation = record { replicas = situation.standing.replicas; waits = situation.standing.waits; mails = λ who. [] }
 
-unread_stands : (members jobs : ℕ) (situation : Situation) → ((who : ℕ) → who < members → situation.mails who ≡ []) → StandsForCalm members jobs situation (unread situation)
+unread_stands : (members jobs : ℕ) (situation : Situation) → ((who : ℕ) → who < members → situation.mails who ≡ []) → StandsForCluster members jobs situation (unread situation)
 unread_stands members jobs situation empty = record {
   replicas = λ who below. refl;
   waits = λ who below. refl;
@@ -48,9 +48,9 @@ pub first_campaign : (members : ℕ) (table : Table) (at : ℤ) (book rows : Lis
     → LeadsWithin 4 members table (coordinator members situation) after
 first_campaign members table at book rows situation after more goes empty = inr (record {
   first = record {
-    calm = after_campaign members who calm;
-    best = own_votes (calm.replicas who);
-    at = campaigned_at table launch.0 who (calm.replicas who);
+    cluster = after_campaign members who cluster;
+    best = own_votes (cluster.replicas who);
+    at = campaigned_at table launch.0 who (cluster.replicas who);
     over = refl;
     campaigned = campaigned;
   };
@@ -63,15 +63,15 @@ first_campaign members table at book rows situation after more goes empty = inr 
     member : who < members
     member = let within = furthest_within situation.standing.replicas (members - 1) in omega (arith, within, more)
 
-    calm : Calm
-    calm = unanswered who (unread situation)
+    cluster : Cluster
+    cluster = unanswered who (unread situation)
 
-    launch : (rows : List JobRow) × IsLaunchTable table (calm.replicas who) rows
-    launch = all_applied table goes.sound (calm.replicas who).kept.rows (calm.replicas who).learned
+    launch : (rows : List JobRow) × IsLaunchTable table (cluster.replicas who) rows
+    launch = all_applied table goes.sound (cluster.replicas who).kept.rows (cluster.replicas who).learned
 
-    campaigned : HasCampaigned members who (own_votes (calm.replicas who)) (campaigned_at table launch.0 who (calm.replicas who)) (after_campaign members who calm)
+    campaigned : HasCampaigned members who (own_votes (cluster.replicas who)) (campaigned_at table launch.0 who (cluster.replicas who)) (after_campaign members who cluster)
     campaigned =
-        first_made members who table launch.0 calm (record { member = member; few = goes.few; more = more }) (fact_here who None situation.standing.waits)
+        first_made members who table launch.0 cluster (record { member = member; few = goes.few; more = more }) (fact_here who None situation.standing.waits)
         (λ other below. refl)
         (λ other below. furthest_most situation.standing.replicas (members - 1) other (omega (arith, below)))
         (λ other below apart. none_promised members table book situation who other goes.few (front_legal members table book rows goes.legal) goes.standing member below)

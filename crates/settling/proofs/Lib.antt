@@ -1,6 +1,6 @@
 -- Why the proofs hold. Names in backquotes are files of this folder and lemmas in them.
 --
--- A round of a legal book is a calm round:
+-- A round of a legal book is a synchronous round:
 -- - The letters of a step are at most one to each replica, which hears what was said to it (`PostLemmas`: `one_to`).
 -- - A turn of a replica leaves all others as they were, with their mails and the answers that wait for them, and
 --   turns of one replica come to what its events come to (`PassLemmas`: `turn_passes`, `pass_join`).
@@ -14,9 +14,9 @@
 --   `letters_are_whole`).
 -- - The letters that join a mail are those that were posted in the round to its replica, in order (`DeliverLemmas`:
 --   `letters_join`).
--- - Each replica of a legal book is coherent, so the advice is that of a calm round (`CalmLemmas`: `round_is_calm`).
+-- - Each replica of a legal book is coherent, so the advice is that of a synchronous round (`ClusterLemmas`: `round_is_synchronous`).
 -- - What was posted stays posted, so a prefix of the book is within the limits too, and the next round goes on from
---   it (`RoundsLemmas`: `front_bounds`, `first_round`, `rounds_are_calm`).
+--   it (`RoundsLemmas`: `front_bounds`, `first_round`, `rounds_are_synchronous`).
 --
 -- One comes to lead in the rounds of a drain:
 -- - A replica promises a ballot without a vote only if it has just heard of it (`TakesLemmas`: `step_takes`).
@@ -34,20 +34,20 @@
 -- - Each round goes from one of the five situations to the next (`PhaseLemmas`: `from_campaigned`, `from_answered`,
 --   `from_yielding`, `from_promised`, `leads_on`).
 --
--- One that leads alone comes to rest:
+-- One that leads alone becomes idle:
 -- - A leader has no turn for a campaign, and if nobody has a turn nothing changes (`DrainLeadLemmas`:
 --   `delivers_none`, `goes_round`).
--- - The calm round that the round stands for brings the leader's stage nearer to rest, and a replica has one launch
+-- - The synchronous round that the round stands for brings the leader's stage nearer to being idle, and a replica has one launch
 --   table (`DrainLeadLemmas`: `fewer_left`, `drained`).
--- - At rest it is at the one stage that is free, and so it is idle (`DrainRestLemmas`: `idle_at`, `alone_idle`).
--- - It is idle after each round, and after five all are level (`DrainRestLemmas`: `rested_on`, `rests_quietly`).
--- - The others have promised no ballot above the leader's (`DrainRestLemmas`: `most_promised`).
+-- - In an idle situation it is at the one stage that is free, and so it is idle in rounds (`DrainIdleLemmas`: `idle_at`, `alone_idle`).
+-- - It is idle after each round, and after five all have caught up (`DrainIdleLemmas`: `rested_on`, `rests_quietly`).
+-- - The others have promised no ballot above the leader's (`DrainIdleLemmas`: `most_promised`).
 --
 -- A cluster of one:
 -- - The replica is a majority by itself: it leads at once in its campaign, and learns what it proposes
 --   (`StepLemmas`: `campaign_leads`, `learns_it`).
 -- - At a tick its base rises, or it learns an entry that is needed, or it calls for a launch that is open, or it
---   rests; the number falls in all but the last. An answer that waits is proposed and learned, so the number falls
+--   is idle; the number falls in all but the last. An answer that waits is proposed and learned, so the number falls
 --   before the tick (`NextLemmas`: `tick_alone`, `ended_leads`, `tick_stays`).
 -- - A round of the book is that of its replica, from an empty mail, and leaves its mail empty (`AloneRoundLemmas`:
 --   `round_alone`; `AloneBookLemmas`: `drain_is_round`, `round_comes_to`).
@@ -57,7 +57,7 @@
 -- Any number of replicas:
 -- - There is one replica, or there are more; who leads itself is the one replica of its cluster, number 0
 --   (`SettleLeadLemmas`: `one_or_more`, `first_leads`, `leads_on`).
--- - One that was at rest some rounds ago leads itself still, or leads alone still (`SettleRestLemmas`:
+-- - One that was idle some rounds ago leads itself still, or leads alone still (`SettleIdleLemmas`:
 --   `rests_either`).
 --
 -- The whole log is settled:
@@ -70,11 +70,11 @@ pub mod AloneBookLemmas
 pub mod AloneRoundLemmas
 pub mod BookLemmas
 pub mod CallLemmas
-pub mod CalmLemmas
+pub mod ClusterLemmas
 pub mod CampaignRoundLemmas
 pub mod DeliverLemmas
 pub mod DrainLeadLemmas
-pub mod DrainRestLemmas
+pub mod DrainIdleLemmas
 pub mod FirstLemmas
 pub mod NameLemmas
 pub mod NextLemmas
@@ -86,14 +86,14 @@ pub mod QuietEndLemmas
 pub mod QuietLemmas
 pub mod RoundsLemmas
 pub mod SettleLeadLemmas
-pub mod SettleRestLemmas
+pub mod SettleIdleLemmas
 pub mod SomeAlone
 pub mod SomeBusy
 pub mod SomeCampaignTurns
 pub mod SomeDrain
 pub mod SomeDrainTurns
 pub mod SomeQuietEnd
-pub mod SomeRest
+pub mod SomeIdle
 pub mod SomeRound
 pub mod SomeSettled
 pub mod SomeYield

@@ -23,7 +23,7 @@ use Rattle.synchronous_rounds.specs.Begins.{proposal_of}
 use Rattle.synchronous_rounds.specs.Flights.{IsNeeded, Proposal, learned_by, with_base}
 use Rattle.synchronous_rounds.specs.Measure.{rounds_left, wait_of, work}
 use Rattle.synchronous_rounds.specs.Rounds.{IsAnswerTo}
-use Rattle.synchronous_rounds.specs.Ruled.{IsLeading, Progress}
+use Rattle.synchronous_rounds.specs.LedAlone.{IsLeading, Progress}
 use Rattle.synchronous_rounds.proofs.BeginLemmas.{Begun, begins_entry, calls_for, says_lead, ends, next_entry, proposing, takes_end, tick_begins}
 use Rattle.synchronous_rounds.proofs.NearLemmas.{learned_nearer}
 use Rattle.synchronous_rounds.proofs.OutcomeLemmas.{long_tick, no_call_rebase, saying_stays, short_tick, one_call, call_stays}
@@ -41,7 +41,7 @@ pub record HasNothing (best : List Vote) (at : Progress) (now : ℤ) (waits : Op
 abbrev left_at : List Vote → Progress → Option SchedRow → State → ℕ
 left_at best at waits state = rounds_left at.table.window.until.0 at.rows best waits state
 
--- It leads itself on in another state, and is nearer to rest; or it had nothing to do, and is as far as it was.
+-- It leads itself on in another state, and is nearer to being idle; or it had nothing to do, and is as far as it was.
 pub record LeadsOn (best : List Vote) (at : Progress) (now : ℤ) (waits : Option SchedRow) (state : State) (next_waits : Option SchedRow) (next : State) : Type 0 where
   pub later : Progress
   pub over : later.table ≡ at.table
@@ -219,7 +219,7 @@ answer_alone best at row rows state leading planned able =
     ends alone at best (End row.name.job row.name.at row.kind) (is_open row.name.job row.name.at rows) state
     (ap (λ list. is_open row.name.job row.name.at list) rows_are ∙ able.1) able.0 leading
 
--- the end of its launch is learned, so that it is nearer to rest, and so after a tick
+-- the end of its launch is learned, so that it is nearer to being idle, and so after a tick
 pub ended_leads : (best : List Vote) (at : Progress) (sound : IsSound at.table) (now : ℤ) (row : SchedRow) (state next : State) (answered : Option SchedRow) → IsLeading best None at state
     → IfWaits best at (Some row)
     → LeadsOn best (learned_by (proposal_of alone best at (next_entry at sound (End row.name.job row.name.at row.kind)) 0)) now None (after_acts (proposing alone at (End row.name.job row.name.at row.kind)) state) answered next

@@ -21,7 +21,7 @@ use Rattle.history.specs.declared.turn.Turn.TheVariants.{Did}
 use Rattle.history.proofs.Standings.{waits_made, waits_none, fact_here}
 use Rattle.history.proofs.Turns.{AllFollow}
 use Rattle.history.proofs.Keeping.{one_event}
-use Rattle.synchronous_rounds.specs.Calm.{Advice, HeardLetter, after_events, answer_events, events_of, hear_events}
+use Rattle.synchronous_rounds.specs.Cluster.{Advice, HeardLetter, after_events, answer_events, events_of, hear_events}
 use Rattle.synchronous_rounds.specs.Rounds.{IsAnswerTo}
 use Rattle.script_semantics.specs.Round.{answer_tasks, hear_tasks}
 use Rattle.script_semantics.specs.Situation.{AreTurnsFor, Situation, Task, Do, Does, after_turn, after_turns, mails_after}

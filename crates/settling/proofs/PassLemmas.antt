@@ -16,7 +16,7 @@ use Rattle.history.specs.declared.turn.CallRow.{CallRow}
 use Rattle.history.specs.declared.turn.Cause.{Cause}
 use Rattle.history.specs.declared.turn.Cause.TheVariants.{Campaign, Tick, Hear, Answer}
 use Rattle.history.specs.declared.turn.Turn.TheVariants.{Did}
-use Rattle.synchronous_rounds.specs.Calm.{ArePlanned, after_events, letters_to}
+use Rattle.synchronous_rounds.specs.Cluster.{ArePlanned, after_events, letters_to}
 use Rattle.synchronous_rounds.proofs.Lists.{events_append}
 use Rattle.synchronous_rounds.proofs.MailLemmas.{letters_append}
 use Rattle.script_semantics.specs.Situation.{Situation, after_turn, fates_after, mails_after}

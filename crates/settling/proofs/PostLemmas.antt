@@ -12,7 +12,7 @@ use Rattle.step_spec.specs.Message.{Message}
 use Rattle.step_spec.specs.declared.out.OutLetter.{OutLetter}
 use Rattle.step_spec.proofs.HeardLemmas.{messages_heard}
 use Rattle.history.specs.Book.{PostedLetter, post}
-use Rattle.synchronous_rounds.specs.Calm.{letter_from}
+use Rattle.synchronous_rounds.specs.Cluster.{letter_from}
 use Rattle.settling.specs.Stands.{IsHeardLike}
 use Rattle.due_set.proofs.Rising.{Contains-head as in_first, Contains-tail as in_rest}
 

@@ -33,11 +33,11 @@ use Rattle.agreement.proofs.Whole.{IsWhole}
 use Rattle.history.specs.Book.{Row, learned_in, standing_after, votes_in}
 use Rattle.history.specs.Legal.{IsLegal}
 use Rattle.history.proofs.Reached.{Matches, reaches}
-use Rattle.synchronous_rounds.specs.Calm.{Calm}
-use Rattle.synchronous_rounds.specs.Ruled.{IsLeading, Progress}
+use Rattle.synchronous_rounds.specs.Cluster.{Cluster}
+use Rattle.synchronous_rounds.specs.LedAlone.{IsLeading, Progress}
 use Rattle.script_semantics.specs.Settling.{IsFreeTerm, IsQuiet}
 use Rattle.script_semantics.specs.Situation.{Situation}
-use Rattle.synchronous_rounds.specs.CatchUp.{AreLevel, IsIdle}
+use Rattle.synchronous_rounds.specs.CatchUp.{HaveCaughtUp, IsIdle}
 use Rattle.settling.specs.Quiet.{EndsQuietly, HasPromisedMost, IsSituationOf}
 
 -- ---- a world
@@ -165,7 +165,7 @@ learned_whole members table book who now situation log ends = record { long = lo
 
 pub quiet_learned : (members : ℕ) (table : Table) (book : List Row) (who : ℕ) (now : ℤ) (situation : Situation) (log : List Entry) (other : ℕ) → EndsQuietly members table book who now situation log → other < members → prefix_of (situation.standing.replicas other) ≡ length log
 quiet_learned members table book who now situation log other ends below =
-    ends.quiet.level other below ∙ sym (learned_whole members table book who now situation log ends).long
+    ends.quiet.caught_up other below ∙ sym (learned_whole members table book who now situation log ends).long
 
 pub quiet_calls : (members : ℕ) (table : Table) (book : List Row) (who : ℕ) (now : ℤ) (situation : Situation) (log : List Entry) (rows : List JobRow) → EndsQuietly members table book who now situation log → IsClerkOf table log rows → NoCall table rows now
 quiet_calls members table book who now situation log rows ends clerk = ((learned_whole members table book who now situation log ends).rests rows clerk).0
@@ -173,40 +173,40 @@ quiet_calls members table book who now situation log rows ends clerk = ((learned
 pub quiet_starts : (members : ℕ) (table : Table) (book : List Row) (who : ℕ) (now : ℤ) (situation : Situation) (log : List Entry) (rows : List JobRow) → EndsQuietly members table book who now situation log → IsClerkOf table log rows → NoStart table rows now
 quiet_starts members table book who now situation log rows ends clerk = ((learned_whole members table book who now situation log ends).rests rows clerk).1
 
--- ---- calm rounds
+-- ---- synchronous rounds
 
--- a leader that rests, where all have learned as much, is the coordinator of a quiet situation
-pub idle_quiet : (members leader : ℕ) (best : List Vote) (at : Progress) (now : ℤ) (calm : Calm) (situation : Situation) → IsIdle members leader best at now calm → AreLevel members at.prefix calm → IsSituationOf calm situation → IsQuiet members at.table leader now situation
-idle_quiet members leader best at now calm situation idle level is = record {
+-- a leader that is idle, where all have learned as much, is the coordinator of a quiet situation
+pub idle_quiet : (members leader : ℕ) (best : List Vote) (at : Progress) (now : ℤ) (cluster : Cluster) (situation : Situation) → IsIdle members leader best at now cluster → HaveCaughtUp members at.prefix cluster → IsSituationOf cluster situation → IsQuiet members at.table leader now situation
+idle_quiet members leader best at now cluster situation idle caught_up is = record {
   free = subst (λ s. IsFreeTerm (prefix_of s) s.term) (sym (is.replicas leader)) free;
   answered = is.waits leader ∙ idle.free.alone;
   rests = record { rows = at.rows; rows_are = subst (λ s. IsLaunchTable at.table s at.rows) (sym (is.replicas leader)) leading.launch; rests = idle.rests };
-  level = λ other below.
-      ap prefix_of (is.replicas other) ∙ (level other below ∙ (sym leading.learned ∙ ap prefix_of (sym (is.replicas leader))));
+  caught_up = λ other below.
+      ap prefix_of (is.replicas other) ∙ (caught_up other below ∙ (sym leading.learned ∙ ap prefix_of (sym (is.replicas leader))));
 }
   where
-    leading : IsLeading best None at (calm.replicas leader)
+    leading : IsLeading best None at (cluster.replicas leader)
     leading = idle.free.free.leading
 
-    free : IsFreeTerm (prefix_of (calm.replicas leader)) (calm.replicas leader).term
-    free = subst (λ t. IsFreeTerm (prefix_of (calm.replicas leader)) t) (sym leading.is) (ap (λ k. votes_from k best) leading.learned ∙ idle.unbound)
+    free : IsFreeTerm (prefix_of (cluster.replicas leader)) (cluster.replicas leader).term
+    free = subst (λ t. IsFreeTerm (prefix_of (cluster.replicas leader)) t) (sym leading.is) (ap (λ k. votes_from k best) leading.learned ∙ idle.unbound)
 
 -- one that leads alone has promised the highest ballot
-pub leads_highest : (members leader : ℕ) (best : List Vote) (at : Progress) (now : ℤ) (calm : Calm) (situation : Situation) → IsIdle members leader best at now calm → IsSituationOf calm situation → HasPromisedMost members leader situation
-leads_highest members leader best at now calm situation idle is other below =
+pub leads_highest : (members leader : ℕ) (best : List Vote) (at : Progress) (now : ℤ) (cluster : Cluster) (situation : Situation) → IsIdle members leader best at now cluster → IsSituationOf cluster situation → HasPromisedMost members leader situation
+leads_highest members leader best at now cluster situation idle is other below =
     subst (λ s. promised_in s.kept ≤ promised_in (situation.standing.replicas leader).kept) (sym (is.replicas other))
-    (subst (λ s. promised_in (calm.replicas other).kept ≤ promised_in s.kept) (sym (is.replicas leader)) (elim (cases_eq other leader) [
-      | inl same ↦ subst (λ q. promised_in (calm.replicas q).kept ≤ promised_in (calm.replicas leader).kept) (sym same) (omega arith)
-      | inr apart ↦ omega (arith, (idle.free.free.ruled.behind other below apart).promised, idle.free.free.leading.promised)
+    (subst (λ s. promised_in (cluster.replicas other).kept ≤ promised_in s.kept) (sym (is.replicas leader)) (elim (cases_eq other leader) [
+      | inl same ↦ subst (λ q. promised_in (cluster.replicas q).kept ≤ promised_in (cluster.replicas leader).kept) (sym same) (omega arith)
+      | inr apart ↦ omega (arith, (idle.free.free.led_alone.behind other below apart).promised, idle.free.free.leading.promised)
     ]))
 
-pub idle_ends : (members leader : ℕ) (best : List Vote) (at : Progress) (now : ℤ) (calm : Calm) (situation : Situation) (book : List Row) (log : List Entry) → IsIdle members leader best at now calm → AreLevel members at.prefix calm → IsSituationOf calm situation → IsLegal members at.table book → situation.standing ≡ standing_after members (first_rows at.table) book → IsLog members (votes_in book) log → EndsQuietly members at.table book leader now situation log
-idle_ends members leader best at now calm situation book log idle level is legal standing is_log = record {
-  few = idle.free.free.ruled.few;
+pub idle_ends : (members leader : ℕ) (best : List Vote) (at : Progress) (now : ℤ) (cluster : Cluster) (situation : Situation) (book : List Row) (log : List Entry) → IsIdle members leader best at now cluster → HaveCaughtUp members at.prefix cluster → IsSituationOf cluster situation → IsLegal members at.table book → situation.standing ≡ standing_after members (first_rows at.table) book → IsLog members (votes_in book) log → EndsQuietly members at.table book leader now situation log
+idle_ends members leader best at now cluster situation book log idle caught_up is legal standing is_log = record {
+  few = idle.free.free.led_alone.few;
   legal = legal;
   standing = standing;
-  member = idle.free.free.ruled.member;
-  quiet = idle_quiet members leader best at now calm situation idle level is;
-  most = leads_highest members leader best at now calm situation idle is;
+  member = idle.free.free.led_alone.member;
+  quiet = idle_quiet members leader best at now cluster situation idle caught_up is;
+  most = leads_highest members leader best at now cluster situation idle is;
   is_log = is_log;
 }

@@ -1,4 +1,4 @@
--- Rounds of a legal book, one after another, are calm rounds.
+-- Rounds of a legal book, one after another, are synchronous rounds.
 use Rattle.std.proofs.Common.{◌≡◌, ℕ, zero, suc, List, [], ◌∷◌, ◌++◌, append_assoc, append-nil, length, ℤ, sym, ap, ◌∙◌, arith, subst}
 use Rattle.std.specs.List.{Contains}
 use Rattle.std.proofs.lemmas.List.{length-append}
@@ -13,16 +13,16 @@ use Rattle.history.specs.declared.turn.Turn.TheVariants.{Did, Stopped, Restarted
 use Rattle.history.proofs.Turns.{after_rows}
 use Rattle.step_spec.specs.Step.{Event}
 use Rattle.step_spec.specs.declared.out.OutLetter.{OutLetter}
-use Rattle.synchronous_rounds.specs.Calm.{Calm}
+use Rattle.synchronous_rounds.specs.Cluster.{Cluster}
 use Rattle.script_semantics.specs.Arms.{AreRoundsByArms, AreUnarmed, PlaysByArms}
 use Rattle.script_semantics.specs.Parts.{Then}
 use Rattle.script_semantics.specs.Round.{round_tasks}
 use Rattle.script_semantics.specs.Situation.{Performs, Situation}
 use Rattle.script_semantics.proofs.ArmsLemmas.{unarmed_performed, unarmed_performs}
 use Rattle.settling.specs.Rounds.{GoesRound, GoesRounds, IsWithinBounds, StandsForRounds}
-use Rattle.settling.specs.Stands.{StandsForCalm}
+use Rattle.settling.specs.Stands.{StandsForCluster}
 use Rattle.settling.proofs.BookLemmas.{front_legal, stand_after}
-use Rattle.settling.proofs.CalmLemmas.{round_is_calm, round_leaves_no_fault}
+use Rattle.settling.proofs.ClusterLemmas.{round_is_synchronous, round_leaves_no_fault}
 
 -- what was posted stays posted
 posted_stays : (members : ℕ) (standing : Standing) (turn : Turn) (event : Event) (letters : List OutLetter) (letter : PostedLetter)
@@ -93,27 +93,27 @@ first_round members table at more book rows situation after goes none parts =
           (front_bounds members table (book ++ parts.front) parts.back bounds);
     }
 
-pub rounds_are_calm : (members : ℕ) (table : Table) (at : ℤ) (rounds : ℕ) (book rows : List Row) (situation after : Situation) (calm : Calm) → GoesRounds members table at rounds book rows situation after
-    → AreUnarmed situation → StandsForCalm members (length table.jobs) situation calm → StandsForRounds members table at rounds calm after
-rounds_are_calm members table at zero book rows situation after calm goes none there =
-    subst (λ (s : Situation). StandsForCalm members (length table.jobs) s calm) (sym goes.round.is) there
-rounds_are_calm members table at (suc more) book rows situation after calm goes none there =
+pub rounds_are_synchronous : (members : ℕ) (table : Table) (at : ℤ) (rounds : ℕ) (book rows : List Row) (situation after : Situation) (cluster : Cluster) → GoesRounds members table at rounds book rows situation after
+    → AreUnarmed situation → StandsForCluster members (length table.jobs) situation cluster → StandsForRounds members table at rounds cluster after
+rounds_are_synchronous members table at zero book rows situation after cluster goes none there =
+    subst (λ (s : Situation). StandsForCluster members (length table.jobs) s cluster) (sym goes.round.is) there
+rounds_are_synchronous members table at (suc more) book rows situation after cluster goes none there =
     let parts = goes.round in
     let whole : book ++ rows ≡ (book ++ parts.front) ++ parts.back = ap (λ list. book ++ list) parts.parts ∙ sym (append_assoc book parts.front parts.back) in
     let first = first_round members table at more book rows situation after goes none parts in
-    let one = round_is_calm members table at book parts.front situation parts.middle calm first there in (
+    let one = round_is_synchronous members table at book parts.front situation parts.middle cluster first there in (
       one.advice,
       one.answers,
       one.advised,
       one.answered,
-      rounds_are_calm members table at more (book ++ parts.front) parts.back parts.middle after _
+      rounds_are_synchronous members table at more (book ++ parts.front) parts.back parts.middle after _
           (record {
             few = goes.few;
             sound = goes.sound;
             within = goes.within;
             legal = subst (λ list. IsLegal members table list) whole goes.legal;
             standing = performed_stands members table at book parts.front situation parts.middle parts.one goes.standing;
-            faultless = round_leaves_no_fault members table at book parts.front situation parts.middle calm first there;
+            faultless = round_leaves_no_fault members table at book parts.front situation parts.middle cluster first there;
             round = parts.two;
             limits = subst (λ list. IsWithinBounds list after.standing.posted) whole goes.limits;
           })

@@ -9,14 +9,14 @@ use Rattle.step_spec.specs.Step.{IsLaunchTable}
 use Rattle.agreement.specs.Log.{IsLog}
 use Rattle.history.specs.Book.{Row, standing_after, votes_in}
 use Rattle.history.specs.Legal.{IsLegal}
-use Rattle.synchronous_rounds.specs.Calm.{Calm}
+use Rattle.synchronous_rounds.specs.Cluster.{Cluster}
 use Rattle.script_semantics.specs.Settling.{IsQuiet, coordinator}
 use Rattle.script_semantics.specs.Situation.{Situation}
 use Rattle.settling.specs.Quiet.{EndsQuietly}
 use Rattle.settling.specs.Leads.{GoesDrainRound}
 use Rattle.settling.specs.Rounds.{IsFaultless}
-use Rattle.settling.specs.Stands.{StandsForCalm}
-use Rattle.settling.proofs.CalmLemmas.{round_leaves_no_fault}
+use Rattle.settling.specs.Stands.{StandsForCluster}
+use Rattle.settling.proofs.ClusterLemmas.{round_leaves_no_fault}
 use Rattle.settling.specs.Campaigns.{GoesCampaign}
 use Rattle.settling.specs.Within.{IsOnItsWay, LeadsWithin}
 use Rattle.settling.proofs.FirstLemmas.{first_campaign}
@@ -24,9 +24,9 @@ use Rattle.settling.proofs.PhaseLemmas.{comes_nearer, quiet_leads}
 use Rattle.settling.proofs.CampaignRoundLemmas.{drain_leaves_no_fault}
 use Rattle.settling.proofs.TurnLemmas as turn
 use Rattle.settling.specs.Drain.{HasFewerLeft}
-use Rattle.settling.specs.Rest.{IsAtRest}
+use Rattle.settling.specs.Idle.{IsIdleAt}
 use Rattle.settling.proofs.DrainLeadLemmas.{alone_has_table, drained, goes_round}
-use Rattle.settling.proofs.DrainRestLemmas.{ends_quietly}
+use Rattle.settling.proofs.DrainIdleLemmas.{ends_quietly}
 use Rattle.settling.proofs.AloneBookLemmas.{campaign_is_won, round_leads, round_brings_nearer, round_leaves_right}
 use Rattle.settling.proofs.AloneBookLemmas as itself_at
 use Rattle.settling.proofs.QuietLemmas.{quiet_ends}
@@ -48,9 +48,9 @@ leads_on members table who at book rows situation after (itself one first leads)
 leads_on members table who at book rows situation after (among alone) goes =
     among (drained members table who at book rows situation after alone (goes_round members table who at book rows situation after alone goes)).alone
 
-pub leads_nearer : (members : ℕ) (table : Table) (who : ℕ) (at : ℤ) (book rows : List Row) (situation after : Situation) → LeadsNow members table who situation → GoesDrainRound members table who at book rows situation after → IsAtRest table who at situation ⊎ HasFewerLeft table who situation after
+pub leads_nearer : (members : ℕ) (table : Table) (who : ℕ) (at : ℤ) (book rows : List Row) (situation after : Situation) → LeadsNow members table who situation → GoesDrainRound members table who at book rows situation after → IsIdleAt table who at situation ⊎ HasFewerLeft table who situation after
 leads_nearer members table who at book rows situation after (itself one first leads) goes =
-    subst (λ w. IsAtRest table w at situation ⊎ HasFewerLeft table w situation after) (sym first)
+    subst (λ w. IsIdleAt table w at situation ⊎ HasFewerLeft table w situation after) (sym first)
     (round_brings_nearer table at book rows situation after leads
     (to_one (λ m w. GoesDrainRound m table w at book rows situation after) members who one first goes))
 leads_nearer members table who at book rows situation after (among alone) goes =
@@ -129,25 +129,25 @@ campaign_faultless members table at book rows situation after some goes = elim (
 -- one of several that is on its way, and what stands for its situation
 record IsOnTheWay (members : ℕ) (table : Table) (situation : Situation) : Type 0 where
   more : 2 ≤ members
-  calm : Calm
-  stands : StandsForCalm members (length table.jobs) situation calm
+  cluster : Cluster
+  stands : StandsForCluster members (length table.jobs) situation cluster
 
 way_of : (rounds members : ℕ) (table : Table) (who : ℕ) (situation : Situation) → IsOnItsWay rounds members table who situation → IsOnTheWay members table situation
 way_of zero members table who situation way = absurd way
-way_of (suc zero) members table who situation way = record { more = way.campaigned.one.more; calm = _; stands = way.stands }
-way_of (suc (suc zero)) members table who situation way = record { more = way.one.first.campaigned.one.more; calm = _; stands = way.stands }
-way_of (suc (suc (suc zero))) members table who situation way = record { more = way.one.first.campaigned.one.more; calm = _; stands = way.stands }
-way_of (suc (suc (suc (suc zero)))) members table who situation way = record { more = way.first.campaigned.one.more; calm = _; stands = way.stands }
+way_of (suc zero) members table who situation way = record { more = way.campaigned.one.more; cluster = _; stands = way.stands }
+way_of (suc (suc zero)) members table who situation way = record { more = way.one.first.campaigned.one.more; cluster = _; stands = way.stands }
+way_of (suc (suc (suc zero))) members table who situation way = record { more = way.one.first.campaigned.one.more; cluster = _; stands = way.stands }
+way_of (suc (suc (suc (suc zero)))) members table who situation way = record { more = way.first.campaigned.one.more; cluster = _; stands = way.stands }
 way_of (suc (suc (suc (suc (suc more))))) members table who situation way = absurd way
 
 pub soon_faultless : (rounds members : ℕ) (table : Table) (who : ℕ) (at : ℤ) (book rows : List Row) (situation after : Situation) → LeadsSoon rounds members table who situation → GoesDrainRound members table who at book rows situation after → IsFaultless members after
 soon_faultless rounds members table who at book rows situation after (inr on_its_way) goes =
     let way = way_of rounds members table who situation on_its_way in
-    drain_leaves_no_fault members table who at book rows situation after way.calm way.more goes way.stands
+    drain_leaves_no_fault members table who at book rows situation after way.cluster way.more goes way.stands
 soon_faultless rounds members table who at book rows situation after (inl leads) goes = go leads
   where
     go : LeadsNow members table who situation → IsFaultless members after
     go (itself one first by) =
         subst (λ m. IsFaultless m after) (sym one) (round_leaves_right table at book rows situation after by
         (to_one (λ m w. GoesDrainRound m table w at book rows situation after) members who one first goes))
-    go (among alone) = round_leaves_no_fault members table at book rows situation after alone.calm (goes_round members table who at book rows situation after alone goes) alone.stands
+    go (among alone) = round_leaves_no_fault members table at book rows situation after alone.cluster (goes_round members table who at book rows situation after alone goes) alone.stands

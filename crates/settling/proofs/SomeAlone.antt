@@ -20,7 +20,7 @@ use Rattle.history.proofs.Keeping.{empty_is_legal}
 use Rattle.script_semantics.specs.Situation.{Situation, after_turns, delivered, first_situation}
 use Rattle.settling.specs.Leads.{GoesDrainRound}
 use Rattle.settling.specs.Campaigns.{GoesCampaign}
-use Rattle.settling.specs.Rest.{IsAtRest}
+use Rattle.settling.specs.Idle.{IsIdleAt}
 use Rattle.settling.specs.Alone.{LeadsItself}
 use Rattle.settling.proofs.AloneBookLemmas.{campaign_is_won, campaign_leaves_no_fault}
 use Rattle.script_semantics.proofs.SomeParts.{nothing_found}
@@ -128,7 +128,7 @@ goes_round = record {
   limits = record { turns = omega arith; letters = λ letter has. nothing_in has };
 }
 
-at_rest : IsAtRest quiet_table 0 (pos 525_600) elected
+at_rest : IsIdleAt quiet_table 0 (pos 525_600) elected
 unfolding step campaign after_row after_act after_delta with_member votes_from
 at_rest = record {
   free = refl;
@@ -137,5 +137,5 @@ at_rest = record {
 }
 
 pub some_drain_round : (table : Table) × (at : ℤ) × (book : List Row) × (rows : List Row) × (situation : Situation) × (after : Situation)
-    × LeadsItself table situation × GoesDrainRound 1 table 0 at book rows situation after × IsAtRest table 0 at situation
+    × LeadsItself table situation × GoesDrainRound 1 table 0 at book rows situation after × IsIdleAt table 0 at situation
 some_drain_round = (quiet_table, pos 525_600, stands_for ∷ [], ticks ∷ [], elected, delivered 0 (after_turns 1 untouched (ticks ∷ [])), leads, goes_round, at_rest)

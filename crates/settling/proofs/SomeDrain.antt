@@ -243,12 +243,12 @@ leads_by (inr was) = absurd (not_yielding was)
 
 quiet_now : IsQuiet 2 no_job 0 (pos 525_600) led
 unfolding step campaign tick hear hear_all line on_lead on_prepare on_promise after_row after_act after_delta deltas_by learnt_by calls_by sent_by with_member votes_from packets_of messages_of
-quiet_now = record { free = refl; answered = refl; rests = record { rows = []; rows_are = refl; rests = asks_nothing }; level = level }
+quiet_now = record { free = refl; answered = refl; rests = record { rows = []; rows_are = refl; rests = asks_nothing }; caught_up = caught_up }
   where
-    level : (other : ℕ) → other < 2 → prefix_of (led.standing.replicas other) ≡ prefix_of (led.standing.replicas 0)
-    level zero below = refl
-    level (suc zero) below = refl
-    level (suc (suc more)) below = absurd (omega (arith, below))
+    caught_up : (other : ℕ) → other < 2 → prefix_of (led.standing.replicas other) ≡ prefix_of (led.standing.replicas 0)
+    caught_up zero below = refl
+    caught_up (suc zero) below = refl
+    caught_up (suc (suc more)) below = absurd (omega (arith, below))
 
 pub some_campaign : (members : ℕ) × (table : Table) × (at : ℤ) × (book : List Row) × (rows : List Row) × (situation : Situation) × (after : Situation)
     × (2 ≤ members) × GoesCampaign members table (coordinator members situation) at book rows situation after

@@ -1,4 +1,4 @@
--- Two replicas over a table without jobs, of which one leads and rests: the turns of a round, and that each may follow.
+-- Two replicas over a table without jobs, of which one leads and is idle: the turns of a round, and that each may follow.
 use Rattle.std.proofs.Common.{◌≡◌, ℕ, true, pos, Some, None, List, [], ◌∷◌, ℤ, refl, sym, ap, ◌∙◌, arith, subst, lit<}
 use Rattle.std.specs.List.{slice_get}
 use Rattle.paxos_letter.specs.Letters.{Spells}

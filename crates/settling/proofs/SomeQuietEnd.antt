@@ -38,11 +38,11 @@ after_it =
       bases = λ who. 0;
     }
 
-level : (other : ℕ) → other < 2 → prefix_of (after_it.standing.replicas other) ≡ prefix_of (after_it.standing.replicas 0)
+caught_up : (other : ℕ) → other < 2 → prefix_of (after_it.standing.replicas other) ≡ prefix_of (after_it.standing.replicas 0)
 unfolding step campaign tick hear hear_all line on_prepare on_promise after_row after_act after_delta with_member votes_from
-level zero below = refl
-level (suc zero) below = refl
-level (suc (suc more)) below = absurd (omega (arith, below))
+caught_up zero below = refl
+caught_up (suc zero) below = refl
+caught_up (suc (suc more)) below = absurd (omega (arith, below))
 
 most : HasPromisedMost 2 0 after_it
 unfolding step campaign tick hear hear_all line on_prepare on_promise after_row after_act after_delta with_member votes_from
@@ -56,7 +56,7 @@ quiet = record {
   free = refl;
   answered = refl;
   rests = record { rows = []; rows_are = refl; rests = ((λ job at may. nothing_found job may.is_row), (λ job at takes. nothing_found job takes.is_row)) };
-  level = level;
+  caught_up = caught_up;
 }
 
 pub some_quiet_book : (members : ℕ) × (table : Table) × (book : List Row) × (who : ℕ) × (now : ℤ) × (situation : Situation) × (log : List Entry) × EndsQuietly members table book who now situation log

@@ -14,10 +14,10 @@ use Rattle.history.specs.declared.turn.Cause.TheVariants as cause
 use Rattle.history.specs.declared.turn.Turn.TheVariants.{Did}
 use Rattle.history.proofs.Turns.{legal_append}
 use Rattle.history.proofs.Keeping.{empty_is_legal}
-use Rattle.synchronous_rounds.specs.Calm.{Calm}
+use Rattle.synchronous_rounds.specs.Cluster.{Cluster}
 use Rattle.script_semantics.specs.Situation.{Situation, after_turns, delivered, first_situation}
 use Rattle.settling.specs.Rounds.{GoesRound}
-use Rattle.settling.specs.Stands.{StandsForCalm}
+use Rattle.settling.specs.Stands.{StandsForCluster}
 use Rattle.script_semantics.proofs.SomeParts.{nothing_found}
 
 abbrev quiet_table : Table
@@ -96,8 +96,8 @@ goes = record {
   limits = record { turns = omega arith; letters = λ letter has. nothing_in has };
 }
 
-pub some_round : (members : ℕ) × (table : Table) × (at : ℤ) × (book : List Row) × (rows : List Row) × (situation : Situation) × (after : Situation) × (calm : Calm)
-    × GoesRound members table at book rows situation after × StandsForCalm members (length table.jobs) situation calm
+pub some_round : (members : ℕ) × (table : Table) × (at : ℤ) × (book : List Row) × (rows : List Row) × (situation : Situation) × (after : Situation) × (cluster : Cluster)
+    × GoesRound members table at book rows situation after × StandsForCluster members (length table.jobs) situation cluster
 some_round = (
   2,
   quiet_table,

@@ -8,16 +8,16 @@ use Rattle.settling.specs.Leads.{GoesDrainRound}
 use Rattle.settling.specs.Campaigns.{GoesCampaign}
 use Rattle.settling.specs.Within.{LeadsWithin}
 use Rattle.settling.proofs.SomeDrain.{some_round}
-use Rattle.settling.specs.Drain.{RestsFor}
-use Rattle.settling.proofs.SomeRest.{some_rest}
+use Rattle.settling.specs.Drain.{IsIdleFor}
+use Rattle.settling.proofs.SomeIdle.{some_rest}
 use Rattle.settling.proofs.SomeAlone.{some_campaign}
-use Rattle.settling.specs.Settles.{HasRestedFor, LeadsSoon, among}
+use Rattle.settling.specs.Settles.{HasBeenIdleFor, LeadsSoon, among}
 
 within_soon : (rounds members : ℕ) (table : Table) (who : ℕ) (situation : Situation) → LeadsWithin rounds members table who situation → LeadsSoon rounds members table who situation
 within_soon rounds members table who situation (inl alone) = inl (among alone)
 within_soon rounds members table who situation (inr on_its_way) = inr on_its_way
 
-rested_of : (rounds members : ℕ) (table : Table) (who : ℕ) (at : ℤ) (situation : Situation) → RestsFor rounds members table who at situation → HasRestedFor rounds members table who at situation
+rested_of : (rounds members : ℕ) (table : Table) (who : ℕ) (at : ℤ) (situation : Situation) → IsIdleFor rounds members table who at situation → HasBeenIdleFor rounds members table who at situation
 rested_of zero members table who at situation (alone, rest) = (among alone, rest)
 rested_of (suc more) members table who at situation (book, rows, before, rests, goes) =
     (book, rows, before, rested_of more members table who at before rests, goes)
@@ -37,7 +37,7 @@ some_soon =
     (rounds, members, table, who, at, book, rows, situation, after, within_soon (suc rounds) members table who situation within, goes)
 
 pub some_rests : (members : ℕ) × (table : Table) × (who : ℕ) × (at : ℤ) × (book : List Row) × (rows : List Row) × (situation : Situation) × (after : Situation)
-    × HasRestedFor 5 members table who at situation × GoesDrainRound members table who at book rows situation after
+    × HasBeenIdleFor 5 members table who at situation × GoesDrainRound members table who at book rows situation after
 some_rests =
     let (members, table, who, at, book, rows, situation, after, rests, goes) = some_rest in
     (members, table, who, at, book, rows, situation, after, rested_of 5 members table who at situation rests, goes)

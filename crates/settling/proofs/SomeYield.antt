@@ -23,7 +23,7 @@ use Rattle.history.specs.Legal.{IsLegal}
 use Rattle.history.proofs.SomeBook.{prepare_spells}
 use Rattle.history.proofs.Turns.{legal_append}
 use Rattle.history.proofs.Keeping.{empty_is_legal}
-use Rattle.script_semantics.specs.Settling.{calmed}
+use Rattle.script_semantics.specs.Settling.{cleared}
 use Rattle.script_semantics.specs.Situation.{Situation, after_turns, delivered}
 use Rattle.settling.specs.Leads.{GoesDrainRound, LeadsAlone}
 use Rattle.settling.specs.Campaigns.{GoesCampaign}
@@ -69,7 +69,7 @@ promised = again_row ∷ ticks 0 [] ∷ promises_row ∷ ticks 1 [] ∷ []
 -- ---- the situations
 
 abbrev before : Situation
-before = calmed (delivered 0 (after_turns 2 start rival))
+before = cleared (delivered 0 (after_turns 2 start rival))
 
 abbrev stood : Situation
 stood = delivered 1 (after_turns 2 before stands_for)
@@ -268,7 +268,7 @@ stands_now = tt
 not_alone : (Other : Term → Type 0) (situation : Situation) → ((ballot : ℕ) (best : List Vote) (flight : Option Flight) → Other (Leader ballot best flight) → ⊥) → Other (situation.standing.replicas 0).term
     → LeadsAlone 2 no_job 0 situation → ⊥
 not_alone Other situation leads_not other alone =
-    let stands = leader_stands 2 0 alone.best alone.at alone.calm alone.stage in
+    let stands = leader_stands 2 0 alone.best alone.at alone.cluster alone.stage in
     leads_not stands.ballot stands.best stands.flight
     (subst Other stands.is (subst (λ (s : State). Other s.term) (sym (alone.stands.replicas 0 (omega arith))) other))
 

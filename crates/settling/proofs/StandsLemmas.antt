@@ -9,9 +9,9 @@ use Rattle.step_spec.proofs.Lists.{found_in}
 use Rattle.history.specs.Book.{PostedLetter, Row, Standing, standing_after}
 use Rattle.history.specs.Legal.{IsLegal}
 use Rattle.history.proofs.Posted.{posted_heard}
-use Rattle.synchronous_rounds.specs.Calm.{Calm, HeardLetter}
+use Rattle.synchronous_rounds.specs.Cluster.{Cluster, HeardLetter}
 use Rattle.script_semantics.specs.Situation.{Situation}
-use Rattle.settling.specs.Stands.{AreMailsPosted, IsLetterAt, StandsForCalm}
+use Rattle.settling.specs.Stands.{AreMailsPosted, IsLetterAt, StandsForCluster}
 use Rattle.due_set.proofs.Rising.{Contains-head as in_first, Contains-tail as in_rest}
 
 -- each letter of some numbers is heard
@@ -29,7 +29,7 @@ heard_mail members jobs posted who (number ∷ numbers) heard there =
     )
 
 pub situation_stands : (members jobs : ℕ) (table : Table) (book : List Row) (situation : Situation) → IsLegal members table book
-    → situation.standing ≡ standing_after members (first_rows table) book → AreMailsPosted situation → (calm : Calm) × StandsForCalm members jobs situation calm
+    → situation.standing ≡ standing_after members (first_rows table) book → AreMailsPosted situation → (cluster : Cluster) × StandsForCluster members jobs situation cluster
 situation_stands members jobs table book situation legal is mailed =
     let mail : (who : ℕ) → (letters : List HeardLetter) × AllZip (IsLetterAt members jobs situation.standing.posted who) (situation.mails who) letters =
     λ who. heard_mail members jobs situation.standing.posted who (situation.mails who)

@@ -22,7 +22,7 @@ use Rattle.agreement.specs.Transition.{identity_of}
 use Rattle.agreement.specs.Agree.{vote_for}
 use Rattle.synchronous_rounds.specs.Begins.{proposal_of}
 use Rattle.synchronous_rounds.specs.Flights.{learned_by}
-use Rattle.synchronous_rounds.specs.Ruled.{IsLeading, Progress}
+use Rattle.synchronous_rounds.specs.LedAlone.{IsLeading, Progress}
 use Rattle.synchronous_rounds.proofs.BeginLemmas.{next_entry, proposing}
 
 -- who it is

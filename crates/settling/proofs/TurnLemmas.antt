@@ -1,4 +1,4 @@
--- The campaign of one replica in a legal book is a campaign between two calm rounds.
+-- The campaign of one replica in a legal book is a campaign between two synchronous rounds.
 use Rattle.std.proofs.Common.{◌≡◌, ℕ, ◌<◌, ◌≤◌, Option, None, List, [], ◌∷◌, ◌++◌, append-nil, length, ℤ, refl, sym, ap, ◌∙◌, inl, inr, arith, subst}
 use Rattle.std.specs.List.{AllZip, filter}
 use Rattle.std.proofs.lemmas.Bool.{cases_eq, eq-eqb, ne_eqb}
@@ -18,12 +18,12 @@ use Rattle.history.specs.declared.turn.Cause.TheVariants.{Campaign}
 use Rattle.history.specs.declared.turn.Turn.TheVariants.{Did}
 use Rattle.history.proofs.Standings.{waits_none}
 use Rattle.history.proofs.Turns.{AllFollow}
-use Rattle.synchronous_rounds.specs.Calm.{Calm, letter_from}
+use Rattle.synchronous_rounds.specs.Cluster.{Cluster, letter_from}
 use Rattle.synchronous_rounds.proofs.CountLemmas.{few_alone}
 use Rattle.synchronous_rounds.specs.Made.{after_campaign, campaign_acts}
 use Rattle.script_semantics.specs.Situation.{AreTurnsFor, Does, Situation, Do, after_turn, after_turns, delivered, letters_for, mails_after}
 use Rattle.settling.specs.Rounds.{IsFaultless, IsWithinBounds}
-use Rattle.settling.specs.Stands.{IsHeardLike, IsLetterAt, StandsForCalm}
+use Rattle.settling.specs.Stands.{IsHeardLike, IsLetterAt, StandsForCluster}
 use Rattle.settling.proofs.BookLemmas.{all_follow, letters_are_whole, stand_after}
 use Rattle.settling.proofs.DeliverLemmas.{letters_join}
 use Rattle.settling.proofs.PartLemmas.{zip_posted}
@@ -121,36 +121,36 @@ campaign_leaves_no_fault members table who at book rows situation after more goe
     }
 
 -- the mails after it
-mails_then : (members : ℕ) (table : Table) (who : ℕ) (at : ℤ) (book rows : List Row) (situation after : Situation) (calm : Calm) → GoesCampaign members table who at book rows situation after
-    → StandsForCalm members (length table.jobs) situation calm → (turn : CampaignTurn members table who situation rows) → (q : ℕ) → q < members
-    → AllZip (IsLetterAt members (length table.jobs) after.standing.posted q) (after.mails q) ((after_campaign members who (unanswered who calm)).mails q)
-mails_then members table who at book rows situation after calm goes there turn q below =
+mails_then : (members : ℕ) (table : Table) (who : ℕ) (at : ℤ) (book rows : List Row) (situation after : Situation) (cluster : Cluster) → GoesCampaign members table who at book rows situation after
+    → StandsForCluster members (length table.jobs) situation cluster → (turn : CampaignTurn members table who situation rows) → (q : ℕ) → q < members
+    → AllZip (IsLetterAt members (length table.jobs) after.standing.posted q) (after.mails q) ((after_campaign members who (unanswered who cluster)).mails q)
+mails_then members table who at book rows situation after cluster goes there turn q below =
     let jobs = length table.jobs in
     let first = length situation.standing.posted in
     let is : after ≡ delivered first turn.later = goes.round.is ∙ ap (λ (s : Situation). delivered first s) turn.is in
     let whole = posted_whole members table who at book rows situation after turn.passes.more goes (ap (λ (s : Situation). s.standing.posted) turn.is ∙ turn.passes.posted) in
     let said = letter_from who (sent_to who q (step (identity_of members who) told.Campaign (situation.standing.replicas who))) in
-    let state : situation.standing.replicas who ≡ calm.replicas who = sym (there.replicas who turn.member) in
+    let state : situation.standing.replicas who ≡ cluster.replicas who = sym (there.replicas who turn.member) in
     let heard : AllZip (IsHeardLike members jobs) (filter (is_to q) turn.passes.more) said =
     subst (λ list. AllZip (IsHeardLike members jobs) (filter (is_to q) turn.passes.more) list) (append-nil said) (turn.passes.letters whole q below) in
     let joined = letters_join members jobs turn.later situation.standing.posted turn.passes.more q said turn.passes.posted
     (ap (λ runs. runs q) turn.passes.runs ∙ goes.faultless.runs q below) (turn.passes.cuts ∙ goes.faultless.uncut) heard in
-    let old : AllZip (IsLetterAt members jobs turn.later.standing.posted q) (turn.later.mails q) (calm.mails q) =
-    subst (λ list. AllZip (IsLetterAt members jobs turn.later.standing.posted q) list (calm.mails q)) (sym (turn.mails q))
-    (subst (λ posted. AllZip (IsLetterAt members jobs posted q) (situation.mails q) (calm.mails q)) (sym turn.passes.posted)
-    (zip_posted members jobs situation.standing.posted turn.passes.more q (situation.mails q) (calm.mails q) (there.mails q below))) in
-    let all = zip_append (IsLetterAt members jobs turn.later.standing.posted q) (turn.later.mails q) (calm.mails q) (letters_for turn.later first q) said old joined in
-    subst (λ (s : Situation). AllZip (IsLetterAt members jobs s.standing.posted q) (s.mails q) ((after_campaign members who (unanswered who calm)).mails q)) (sym is)
+    let old : AllZip (IsLetterAt members jobs turn.later.standing.posted q) (turn.later.mails q) (cluster.mails q) =
+    subst (λ list. AllZip (IsLetterAt members jobs turn.later.standing.posted q) list (cluster.mails q)) (sym (turn.mails q))
+    (subst (λ posted. AllZip (IsLetterAt members jobs posted q) (situation.mails q) (cluster.mails q)) (sym turn.passes.posted)
+    (zip_posted members jobs situation.standing.posted turn.passes.more q (situation.mails q) (cluster.mails q) (there.mails q below))) in
+    let all = zip_append (IsLetterAt members jobs turn.later.standing.posted q) (turn.later.mails q) (cluster.mails q) (letters_for turn.later first q) said old joined in
+    subst (λ (s : Situation). AllZip (IsLetterAt members jobs s.standing.posted q) (s.mails q) ((after_campaign members who (unanswered who cluster)).mails q)) (sym is)
     (subst (λ (s : State). AllZip (IsLetterAt members jobs turn.later.standing.posted q) (turn.later.mails q ++ letters_for turn.later first q)
-    (calm.mails q ++ letter_from who (sent_to who q (step (identity_of members who) told.Campaign s)))) state all)
+    (cluster.mails q ++ letter_from who (sent_to who q (step (identity_of members who) told.Campaign s)))) state all)
 
 -- what stands after it is what the campaign makes of what stood before, but for the answer that waited
-pub campaign_stands : (members : ℕ) (table : Table) (who : ℕ) (at : ℤ) (book rows : List Row) (situation after : Situation) (calm : Calm) → 2 ≤ members → GoesCampaign members table who at book rows situation after
-    → StandsForCalm members (length table.jobs) situation calm → StandsForCalm members (length table.jobs) after (after_campaign members who (unanswered who calm))
-campaign_stands members table who at book rows situation after calm more goes there = record {
+pub campaign_stands : (members : ℕ) (table : Table) (who : ℕ) (at : ℤ) (book rows : List Row) (situation after : Situation) (cluster : Cluster) → 2 ≤ members → GoesCampaign members table who at book rows situation after
+    → StandsForCluster members (length table.jobs) situation cluster → StandsForCluster members (length table.jobs) after (after_campaign members who (unanswered who cluster))
+campaign_stands members table who at book rows situation after cluster more goes there = record {
   replicas = replicas;
   waits = waits;
-  mails = λ q below. mails_then members table who at book rows situation after calm goes there turn q below;
+  mails = λ q below. mails_then members table who at book rows situation after cluster goes there turn q below;
 }
   where
     turn : CampaignTurn members table who situation rows
@@ -159,18 +159,18 @@ campaign_stands members table who at book rows situation after calm more goes th
     is : after.standing ≡ turn.later.standing
     is = ap (λ (s : Situation). s.standing) (goes.round.is ∙ ap (λ (s : Situation). delivered (length situation.standing.posted) s) turn.is)
 
-    mine : after_acts (campaign_acts members who calm) (calm.replicas who) ≡ turn.later.standing.replicas who
+    mine : after_acts (campaign_acts members who cluster) (cluster.replicas who) ≡ turn.later.standing.replicas who
     mine =
         ap (λ (s : State). after_acts (step (identity_of members who) told.Campaign s) s) (there.replicas who turn.member)
         ∙ sym turn.passes.replica
 
-    replicas : (q : ℕ) → q < members → (after_campaign members who (unanswered who calm)).replicas q ≡ after.standing.replicas q
+    replicas : (q : ℕ) → q < members → (after_campaign members who (unanswered who cluster)).replicas q ≡ after.standing.replicas q
     replicas q below = elim (cases_eq q who) [
       | inl same ↦ rw (eq-eqb q who same) (mine ∙ ap turn.later.standing.replicas (sym same) ∙ ap (λ (s : Standing). s.replicas q) (sym is))
       | inr apart ↦ rw (ne_eqb q who apart) (there.replicas q below ∙ sym (turn.passes.others q apart) ∙ ap (λ (s : Standing). s.replicas q) (sym is))
     ]
 
-    waits : (q : ℕ) → q < members → (after_campaign members who (unanswered who calm)).waits q ≡ after.standing.waits q
+    waits : (q : ℕ) → q < members → (after_campaign members who (unanswered who cluster)).waits q ≡ after.standing.waits q
     waits q below = elim (cases_eq q who) [
       | inl same ↦ rw (eq-eqb q who same) (sym turn.waits ∙ ap turn.later.standing.waits (sym same) ∙ ap (λ (s : Standing). s.waits q) (sym is))
       | inr apart ↦ rw (ne_eqb q who apart) (there.waits q below ∙ sym (turn.passes.waits q apart) ∙ ap (λ (s : Standing). s.waits q) (sym is))

@@ -5,7 +5,7 @@ use Rattle.paxos_base.specs.declared.entry.Vote.{Vote}
 use Rattle.cluster_sched.specs.declared.row.SchedRow.{SchedRow}
 use Rattle.due_set.specs.Table.{Table}
 use Rattle.step_spec.specs.Propose.{is_open}
-use Rattle.synchronous_rounds.specs.Ruled.{IsLeading, Progress}
+use Rattle.synchronous_rounds.specs.LedAlone.{IsLeading, Progress}
 use Rattle.script_semantics.specs.Situation.{Situation}
 
 -- an answer that waits is of a launch that is open, and no vote binds the leader

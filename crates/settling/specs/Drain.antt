@@ -6,7 +6,7 @@ use Rattle.step_spec.specs.Step.{IsLaunchTable}
 use Rattle.history.specs.Book.{Row}
 use Rattle.script_semantics.specs.Situation.{Situation}
 use Rattle.settling.specs.Leads.{GoesDrainRound, LeadsAlone}
-use Rattle.settling.specs.Rest.{IsAtRest, left_of}
+use Rattle.settling.specs.Idle.{IsIdleAt, left_of}
 
 -- fewer rounds are left to the replica in the second situation than in the first, by its launch table in each
 abbrev pub HasFewerLeft : Table → (who : ℕ) → (before after : Situation) → Type 0
@@ -15,9 +15,9 @@ HasFewerLeft table who before after =
     → left_of table.window.until.0 new (after.standing.waits who) (after.standing.replicas who)
     < left_of table.window.until.0 old (before.standing.waits who) (before.standing.replicas who)
 
--- **It leads alone, was at rest at the instant so many drain rounds ago, and nothing else has come since.**
-abbrev pub RestsFor : (rounds members : ℕ) → Table → (who : ℕ) → (at : ℤ) → Situation → Type 0
-RestsFor zero members table who at situation = LeadsAlone members table who situation × IsAtRest table who at situation
-RestsFor (suc more) members table who at situation =
-    (book : List Row) × (rows : List Row) × (before : Situation) × RestsFor more members table who at before
+-- **It leads alone, was idle at the instant so many drain rounds ago, and nothing else has come since.**
+abbrev pub IsIdleFor : (rounds members : ℕ) → Table → (who : ℕ) → (at : ℤ) → Situation → Type 0
+IsIdleFor zero members table who at situation = LeadsAlone members table who situation × IsIdleAt table who at situation
+IsIdleFor (suc more) members table who at situation =
+    (book : List Row) × (rows : List Row) × (before : Situation) × IsIdleFor more members table who at before
     × GoesDrainRound members table who at book rows before situation

@@ -3,7 +3,7 @@ pub mod Campaigns
 pub mod Drain
 pub mod Leads
 pub mod Quiet
-pub mod Rest
+pub mod Idle
 pub mod Rounds
 pub mod Settles
 pub mod Stands

@@ -7,7 +7,7 @@ use Rattle.step_spec.specs.State.{promised_in}
 use Rattle.agreement.specs.Log.{IsLog}
 use Rattle.history.specs.Book.{Row, standing_after, votes_in}
 use Rattle.history.specs.Legal.{IsLegal}
-use Rattle.synchronous_rounds.specs.Calm.{Calm}
+use Rattle.synchronous_rounds.specs.Cluster.{Cluster}
 use Rattle.script_semantics.specs.Settling.{IsQuiet}
 use Rattle.script_semantics.specs.Situation.{Situation}
 
@@ -29,6 +29,6 @@ pub record EndsQuietly (members : ℕ) (table : Table) (book : List Row) (who : 
   pub is_log : IsLog members (votes_in book) log
 
 -- the replicas of a situation are these between two rounds, and so are the answers that wait for them
-pub record IsSituationOf (calm : Calm) (situation : Situation) : Type 0 where
-  pub replicas : (who : ℕ) → situation.standing.replicas who ≡ calm.replicas who
-  pub waits : (who : ℕ) → situation.standing.waits who ≡ calm.waits who
+pub record IsSituationOf (cluster : Cluster) (situation : Situation) : Type 0 where
+  pub replicas : (who : ℕ) → situation.standing.replicas who ≡ cluster.replicas who
+  pub waits : (who : ℕ) → situation.standing.waits who ≡ cluster.waits who

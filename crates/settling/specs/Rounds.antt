@@ -7,12 +7,12 @@ use Rattle.cluster_sched.specs.declared.fate.Fate.TheVariants as fate
 use Rattle.cluster_sched.specs.declared.row.SchedRow.{SchedRow}
 use Rattle.history.specs.Book.{PostedLetter, Row, standing_after}
 use Rattle.history.specs.Legal.{IsLegal}
-use Rattle.synchronous_rounds.specs.Calm.{Advice, Calm, IsAdvised, calls_at, calm_round}
+use Rattle.synchronous_rounds.specs.Cluster.{Advice, Cluster, IsAdvised, calls_at, cluster_round}
 use Rattle.synchronous_rounds.specs.Rounds.{IsAnswerTo}
 use Rattle.script_semantics.specs.Arms.{AreRoundsByArms}
 use Rattle.script_semantics.specs.Round.{IsRound}
 use Rattle.script_semantics.specs.Situation.{Situation}
-use Rattle.settling.specs.Stands.{StandsForCalm}
+use Rattle.settling.specs.Stands.{StandsForCluster}
 
 -- All replicas run, no letter is lost, each clock is right, and each call is answered.
 pub record IsFaultless (members : ℕ) (situation : Situation) : Type 0 where
@@ -47,18 +47,18 @@ GoesRound members table at = GoesOnWithin (IsRound members table.window at) memb
 abbrev pub GoesRounds : ℕ → Table → (at : ℤ) → ℕ → (book rows : List Row) → (situation after : Situation) → Type 0
 GoesRounds members table at rounds = GoesOnWithin (AreRoundsByArms members table.window at rounds) members table at
 
--- **The situation stands for a calm round**: by true advice, after which each replica that calls has the answer to its call.
-pub record StandsForRound (members : ℕ) (table : Table) (at : ℤ) (calm : Calm) (after : Situation) : Type 0 where
+-- **The situation stands for a synchronous round**: by true advice, after which each replica that calls has the answer to its call.
+pub record StandsForRound (members : ℕ) (table : Table) (at : ℤ) (cluster : Cluster) (after : Situation) : Type 0 where
   pub advice : ℕ → Advice
   pub answers : ℕ → Option SchedRow
-  pub advised : IsAdvised members table at advice calm
-  pub answered : (who : ℕ) → who < members → IsAnswerTo (calls_at members at advice calm who) (answers who)
-  pub stands : StandsForCalm members (length table.jobs) after (calm_round members at advice answers calm)
+  pub advised : IsAdvised members table at advice cluster
+  pub answered : (who : ℕ) → who < members → IsAnswerTo (calls_at members at advice cluster who) (answers who)
+  pub stands : StandsForCluster members (length table.jobs) after (cluster_round members at advice answers cluster)
 
--- The situation stands for so many calm rounds, one after another.
-abbrev pub StandsForRounds : ℕ → Table → (at : ℤ) → ℕ → Calm → Situation → Type 0
-StandsForRounds members table at zero calm after = StandsForCalm members (length table.jobs) after calm
-StandsForRounds members table at (suc more) calm after =
-    (advice : ℕ → Advice) × (answers : ℕ → Option SchedRow) × IsAdvised members table at advice calm
-    × ((who : ℕ) → who < members → IsAnswerTo (calls_at members at advice calm who) (answers who))
-    × StandsForRounds members table at more (calm_round members at advice answers calm) after
+-- The situation stands for so many synchronous rounds, one after another.
+abbrev pub StandsForRounds : ℕ → Table → (at : ℤ) → ℕ → Cluster → Situation → Type 0
+StandsForRounds members table at zero cluster after = StandsForCluster members (length table.jobs) after cluster
+StandsForRounds members table at (suc more) cluster after =
+    (advice : ℕ → Advice) × (answers : ℕ → Option SchedRow) × IsAdvised members table at advice cluster
+    × ((who : ℕ) → who < members → IsAnswerTo (calls_at members at advice cluster who) (answers who))
+    × StandsForRounds members table at more (cluster_round members at advice answers cluster) after

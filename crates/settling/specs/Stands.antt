@@ -3,7 +3,7 @@ use Rattle.std.specs.Prelude.{◌≡◌, ℕ, ◌<◌, List, Some, slice_get, Co
 use Rattle.std.specs.List.{AllZip}
 use Rattle.step_spec.specs.Letters.{IsHeardAs}
 use Rattle.history.specs.Book.{PostedLetter}
-use Rattle.synchronous_rounds.specs.Calm.{Calm, HeardLetter}
+use Rattle.synchronous_rounds.specs.Cluster.{Cluster, HeardLetter}
 use Rattle.script_semantics.specs.Situation.{Situation}
 
 -- a posted letter is heard as this one
@@ -26,8 +26,8 @@ AreMailsPosted situation =
 
 -- **The situation stands for this**, of so many replicas and jobs: the same replicas, the same answers that wait for them, and in
 -- each mail the letters of its numbers, in order, as they are heard.
-pub record StandsForCalm (members jobs : ℕ) (situation : Situation) (calm : Calm) : Type 0 where
-  pub replicas : (who : ℕ) → who < members → calm.replicas who ≡ situation.standing.replicas who
-  pub waits : (who : ℕ) → who < members → calm.waits who ≡ situation.standing.waits who
+pub record StandsForCluster (members jobs : ℕ) (situation : Situation) (cluster : Cluster) : Type 0 where
+  pub replicas : (who : ℕ) → who < members → cluster.replicas who ≡ situation.standing.replicas who
+  pub waits : (who : ℕ) → who < members → cluster.waits who ≡ situation.standing.waits who
   pub mails : (who : ℕ) → who < members
-      → AllZip (IsLetterAt members jobs situation.standing.posted who) (situation.mails who) (calm.mails who)
+      → AllZip (IsLetterAt members jobs situation.standing.posted who) (situation.mails who) (cluster.mails who)

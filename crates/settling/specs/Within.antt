@@ -3,46 +3,46 @@ use Rattle.std.specs.Prelude.{◌≡◌, ◌⊎◌, ℕ, zero, suc, ℤ, List, l
 use Rattle.paxos_base.specs.declared.entry.Vote.{Vote}
 use Rattle.cluster_sched.specs.declared.row.SchedRow.{SchedRow}
 use Rattle.due_set.specs.Table.{Table}
-use Rattle.synchronous_rounds.specs.Calm.{Advice, Calm, IsAdvised, calm_round}
-use Rattle.synchronous_rounds.specs.Ruled.{Progress}
+use Rattle.synchronous_rounds.specs.Cluster.{Advice, Cluster, IsAdvised, cluster_round}
+use Rattle.synchronous_rounds.specs.LedAlone.{Progress}
 use Rattle.synchronous_rounds.specs.Again.{HasCampaignedAgain}
 use Rattle.synchronous_rounds.specs.Campaign.{HasCampaigned, HasYielded}
 use Rattle.script_semantics.specs.Situation.{Situation}
 use Rattle.settling.specs.Leads.{LeadsAlone}
-use Rattle.settling.specs.Stands.{StandsForCalm}
+use Rattle.settling.specs.Stands.{StandsForCluster}
 
 -- ---- a first campaign
 
 -- Replicas over this table, of which one has just campaigned, in a ballot that no other has promised, and none has learned more.
 pub record FirstCampaign (members : ℕ) (table : Table) (who : ℕ) : Type 0 where
-  pub calm : Calm
+  pub cluster : Cluster
   pub best : List Vote
   pub at : Progress
   pub over : at.table ≡ table
-  pub campaigned : HasCampaigned members who best at calm
+  pub campaigned : HasCampaigned members who best at cluster
 
--- a first campaign, and a calm round after it, in which the candidate calls nobody
+-- a first campaign, and a synchronous round after it, in which the candidate calls nobody
 pub record FirstRound (members : ℕ) (table : Table) (who : ℕ) : Type 0 where
   pub first : FirstCampaign members table who
   pub now : ℤ
   pub advice : ℕ → Advice
   pub answers : ℕ → Option SchedRow
-  pub advised : IsAdvised members first.at.table now advice first.calm
+  pub advised : IsAdvised members first.at.table now advice first.cluster
   pub alone : answers who ≡ None
 
 -- the replicas after that round
-abbrev pub after_first : {members : ℕ} → {table : Table} → {who : ℕ} → FirstRound members table who → Calm
-after_first {members} one = calm_round members one.now one.advice one.answers one.first.calm
+abbrev pub after_first : {members : ℕ} → {table : Table} → {who : ℕ} → FirstRound members table who → Cluster
+after_first {members} one = cluster_round members one.now one.advice one.answers one.first.cluster
 
 -- The situation stands for what a first campaign has left.
 pub record IsAfterCampaign (members : ℕ) (table : Table) (who : ℕ) (situation : Situation) : Type 0 where
   pub first : FirstCampaign members table who
-  pub stands : StandsForCalm members (length table.jobs) situation first.calm
+  pub stands : StandsForCluster members (length table.jobs) situation first.cluster
 
 -- It stands for what is left a round later: the others have answered, and the candidate has heard none of them.
 pub record IsAfterAnswers (members : ℕ) (table : Table) (who : ℕ) (situation : Situation) : Type 0 where
   pub one : FirstRound members table who
-  pub stands : StandsForCalm members (length table.jobs) situation (after_first one)
+  pub stands : StandsForCluster members (length table.jobs) situation (after_first one)
 
 -- It stands for what is left two rounds later, where the candidate yields to a higher ballot that it has heard of.
 pub record IsAfterYielding (members : ℕ) (table : Table) (who : ℕ) (situation : Situation) : Type 0 where
@@ -51,26 +51,26 @@ pub record IsAfterYielding (members : ℕ) (table : Table) (who : ℕ) (situatio
   pub advice : ℕ → Advice
   pub answers : ℕ → Option SchedRow
   pub advised : IsAdvised members one.first.at.table now advice (after_first one)
-  pub yielded : HasYielded members who one.first.at.ballot (after_first one) (calm_round members now advice answers (after_first one))
-  pub stands : StandsForCalm members (length table.jobs) situation (calm_round members now advice answers (after_first one))
+  pub yielded : HasYielded members who one.first.at.ballot (after_first one) (cluster_round members now advice answers (after_first one))
+  pub stands : StandsForCluster members (length table.jobs) situation (cluster_round members now advice answers (after_first one))
 
 -- ---- a second campaign
 
 -- It stands for what is left a round after a second campaign, above each ballot that was promised or named: all others have
 -- promised, and the candidate has heard none of them.
 pub record IsAfterPromises (members : ℕ) (table : Table) (who : ℕ) (situation : Situation) : Type 0 where
-  pub calm : Calm
+  pub cluster : Cluster
   pub top : ℕ
   pub best : List Vote
   pub at : Progress
   pub over : at.table ≡ table
-  pub campaigned : HasCampaignedAgain members who top best at calm
+  pub campaigned : HasCampaignedAgain members who top best at cluster
   pub now : ℤ
   pub advice : ℕ → Advice
   pub answers : ℕ → Option SchedRow
-  pub advised : IsAdvised members at.table now advice calm
+  pub advised : IsAdvised members at.table now advice cluster
   pub alone : answers who ≡ None
-  pub stands : StandsForCalm members (length table.jobs) situation (calm_round members now advice answers calm)
+  pub stands : StandsForCluster members (length table.jobs) situation (cluster_round members now advice answers cluster)
 
 -- ---- the rounds that are left
 

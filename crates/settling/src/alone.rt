@@ -19,7 +19,7 @@ ghost use Rattle.settling.specs.Leads.{GoesDrainRound};
 ghost use Rattle.settling.specs.Rounds.{GoesRound, IsFaultless};
 ghost use Rattle.settling.specs.Campaigns.{GoesCampaign};
 ghost use Rattle.settling.specs.Drain.{HasFewerLeft};
-ghost use Rattle.settling.specs.Rest.{IsAtRest};
+ghost use Rattle.settling.specs.Idle.{IsIdleAt};
 ghost use Rattle.settling.specs.Alone.{LeadsItself};
 
 /// The one replica of a cluster leads itself once it has stood for leader, where no letter waits for it. It is bound by the votes that it
@@ -55,36 +55,36 @@ pub fn its_drain_round_is_a_round()
 {}
 
 /// One that leads itself does so after each round of a drain. Fewer rounds are left to it then, by its launch table, which it has, or it
-/// was at rest before; and one that was at rest is so still.
+/// was idle before; and one that was idle is so still.
 pub fn each_drain_round_brings_one_nearer()
     ensures leads { (table : Table) (at : ℤ) (book rows : List Row) (situation after : Situation)
         → LeadsItself table situation → GoesDrainRound 1 table 0 at book rows situation after → LeadsItself table after }
     ensures nearer { (table : Table) (at : ℤ) (book rows : List Row) (situation after : Situation)
         → LeadsItself table situation → GoesDrainRound 1 table 0 at book rows situation after
-        → IsAtRest table 0 at situation ⊎ HasFewerLeft table 0 situation after }
+        → IsIdleAt table 0 at situation ⊎ HasFewerLeft table 0 situation after }
     ensures launch { (table : Table) (situation : Situation)
         → LeadsItself table situation → (rows : List JobRow) × IsLaunchTable table (situation.standing.replicas 0) rows }
     ensures rests { (table : Table) (at : ℤ) (book rows : List Row) (situation after : Situation)
         → LeadsItself table situation → GoesDrainRound 1 table 0 at book rows situation after
-        → IsAtRest table 0 at situation → IsAtRest table 0 at after }
+        → IsIdleAt table 0 at situation → IsIdleAt table 0 at after }
 {}
 
-/// Where the one replica is at rest, the situation is quiet. A legal book that comes to a quiet situation of one replica ends quietly,
+/// Where the one replica is idle, the situation is quiet. A legal book that comes to a quiet situation of one replica ends quietly,
 /// with its log.
-pub fn one_at_rest_is_quiet()
-    ensures quiet { (table : Table) (at : ℤ) (situation : Situation) → IsAtRest table 0 at situation → IsQuiet 1 table 0 at situation }
+pub fn one_idle_is_quiet()
+    ensures quiet { (table : Table) (at : ℤ) (situation : Situation) → IsIdleAt table 0 at situation → IsQuiet 1 table 0 at situation }
     ensures ends { (table : Table) (at : ℤ) (book : List Row) (situation : Situation) (log : List Entry)
         → IsQuiet 1 table 0 at situation → IsLegal 1 table book → situation.standing ≡ standing_after 1 (first_rows table) book
         → IsLog 1 (votes_in book) log → EndsQuietly 1 table book 0 at situation log }
 {}
 
 /// There is a legal book of one replica that goes on with its campaign, while no letter waits for it. There are legal books that go on
-/// with a round of a drain, in which the replica leads itself: one in which it is at rest, and one in which an answer waits for it.
+/// with a round of a drain, in which the replica leads itself: one in which it is idle, and one in which an answer waits for it.
 pub fn one_may_lead_itself()
     ensures campaign { (table : Table) × (at : ℤ) × (book : List Row) × (rows : List Row) × (situation : Situation) × (after : Situation)
         × GoesCampaign 1 table 0 at book rows situation after × (situation.mails 0 ≡ []) }
     ensures rest { (table : Table) × (at : ℤ) × (book : List Row) × (rows : List Row) × (situation : Situation) × (after : Situation)
-        × LeadsItself table situation × GoesDrainRound 1 table 0 at book rows situation after × IsAtRest table 0 at situation }
+        × LeadsItself table situation × GoesDrainRound 1 table 0 at book rows situation after × IsIdleAt table 0 at situation }
     ensures answer { (table : Table) × (at : ℤ) × (book : List Row) × (rows : List Row) × (situation : Situation) × (after : Situation) × (row : SchedRow)
         × LeadsItself table situation × GoesDrainRound 1 table 0 at book rows situation after × (situation.standing.waits 0 ≡ Some row) }
 {}

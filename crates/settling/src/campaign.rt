@@ -10,13 +10,13 @@ ghost use Rattle.step_spec.specs.State.{promised_in};
 ghost use Rattle.agreement.specs.World.{CastVote};
 ghost use Rattle.history.specs.Book.{PostedLetter, Row, standing_after, votes_in};
 ghost use Rattle.history.specs.Legal.{IsLegal};
-ghost use Rattle.synchronous_rounds.specs.Calm.{Calm};
+ghost use Rattle.synchronous_rounds.specs.Cluster.{Cluster};
 ghost use Rattle.synchronous_rounds.specs.Made.{after_campaign};
 ghost use Rattle.script_semantics.specs.Settling.{IsQuiet, coordinator};
 ghost use Rattle.script_semantics.specs.Situation.{Situation};
 ghost use Rattle.settling.specs.Leads.{GoesDrainRound, LeadsAlone};
 ghost use Rattle.settling.specs.Rounds.{IsFaultless};
-ghost use Rattle.settling.specs.Stands.{StandsForCalm};
+ghost use Rattle.settling.specs.Stands.{StandsForCluster};
 ghost use Rattle.settling.specs.Campaigns.{GoesCampaign, unanswered};
 ghost use Rattle.settling.specs.Tried.{IsTried};
 ghost use Rattle.settling.specs.Within.{IsAfterYielding, LeadsWithin};
@@ -42,17 +42,17 @@ pub fn a_ballot_is_tried_by_its_own_replica()
 /// Where a legal book goes on with the campaign of one replica, what stands after it is what a campaign makes of what stood before,
 /// but for the answer that waited for the replica, which is lost. No fault comes of it.
 pub fn a_campaign_in_a_book_is_a_campaign()
-    ensures campaign { (members : ℕ) (table : Table) (who : ℕ) (at : ℤ) (book rows : List Row) (situation after : Situation) (calm : Calm) → 2 ≤ members
-        → GoesCampaign members table who at book rows situation after → StandsForCalm members (length table.jobs) situation calm
-        → StandsForCalm members (length table.jobs) after (after_campaign members who (unanswered who calm)) }
+    ensures campaign { (members : ℕ) (table : Table) (who : ℕ) (at : ℤ) (book rows : List Row) (situation after : Situation) (cluster : Cluster) → 2 ≤ members
+        → GoesCampaign members table who at book rows situation after → StandsForCluster members (length table.jobs) situation cluster
+        → StandsForCluster members (length table.jobs) after (after_campaign members who (unanswered who cluster)) }
     ensures faultless { (members : ℕ) (table : Table) (who : ℕ) (at : ℤ) (book rows : List Row) (situation after : Situation) → 2 ≤ members
         → GoesCampaign members table who at book rows situation after → IsFaultless members after }
 {}
 
 /// No fault comes of a round of a drain, whoever campaigns in it or not.
 pub fn a_drain_leaves_no_fault()
-    ensures { (members : ℕ) (table : Table) (who : ℕ) (at : ℤ) (book rows : List Row) (situation after : Situation) (calm : Calm) → 2 ≤ members
-        → GoesDrainRound members table who at book rows situation after → StandsForCalm members (length table.jobs) situation calm
+    ensures { (members : ℕ) (table : Table) (who : ℕ) (at : ℤ) (book rows : List Row) (situation after : Situation) (cluster : Cluster) → 2 ≤ members
+        → GoesDrainRound members table who at book rows situation after → StandsForCluster members (length table.jobs) situation cluster
         → IsFaultless members after }
 {}
 

@@ -13,8 +13,8 @@ ghost use Rattle.script_semantics.specs.Situation.{Situation};
 ghost use Rattle.settling.specs.Quiet.{EndsQuietly};
 ghost use Rattle.settling.specs.Leads.{GoesDrainRound, LeadsAlone};
 ghost use Rattle.settling.specs.Rounds.{GoesRound, IsFaultless};
-ghost use Rattle.settling.specs.Drain.{HasFewerLeft, RestsFor};
-ghost use Rattle.settling.specs.Rest.{AreLevelWith, IsAtRest};
+ghost use Rattle.settling.specs.Drain.{HasFewerLeft, IsIdleFor};
+ghost use Rattle.settling.specs.Idle.{HaveCaughtUpWith, IsIdleAt};
 
 /// Where one replica leads alone, a round of a drain is a round and no more: nobody stands for leader. It leaves no fault, and what
 /// stands after it is what stands after the whole book.
@@ -30,43 +30,43 @@ pub fn a_drain_round_is_a_round()
         → after.standing ≡ standing_after members (first_rows table) (book ++ rows) }
 {}
 
-/// One that leads alone does so after each round of a drain, and it was at rest before the round, or fewer rounds are left to it, by
+/// One that leads alone does so after each round of a drain, and it was idle before the round, or fewer rounds are left to it, by
 /// its launch table, which it has.
-pub fn a_leader_comes_to_rest()
+pub fn a_leader_becomes_idle()
     ensures alone { (members : ℕ) (table : Table) (who : ℕ) (at : ℤ) (book rows : List Row) (situation after : Situation)
         → LeadsAlone members table who situation → GoesDrainRound members table who at book rows situation after
         → LeadsAlone members table who after }
     ensures nearer { (members : ℕ) (table : Table) (who : ℕ) (at : ℤ) (book rows : List Row) (situation after : Situation)
         → LeadsAlone members table who situation → GoesDrainRound members table who at book rows situation after
-        → IsAtRest table who at situation ⊎ HasFewerLeft table who situation after }
+        → IsIdleAt table who at situation ⊎ HasFewerLeft table who situation after }
     ensures launch { (members : ℕ) (table : Table) (who : ℕ) (situation : Situation)
         → LeadsAlone members table who situation → (rows : List JobRow) × IsLaunchTable table (situation.standing.replicas who) rows }
 {}
 
-/// One that leads alone and is at rest stays so through rounds of a drain at that instant; and after five of them all have learned as
+/// One that leads alone and is idle stays so through rounds of a drain at that instant; and after five of them all have learned as
 /// much, so that it is quiet.
-pub fn one_at_rest_stays_so()
+pub fn one_idle_stays_so()
     ensures now { (members : ℕ) (table : Table) (who : ℕ) (at : ℤ) (situation : Situation)
-        → LeadsAlone members table who situation → IsAtRest table who at situation → RestsFor 0 members table who at situation }
+        → LeadsAlone members table who situation → IsIdleAt table who at situation → IsIdleFor 0 members table who at situation }
     ensures on { (rounds members : ℕ) (table : Table) (who : ℕ) (at : ℤ) (book rows : List Row) (situation after : Situation)
-        → RestsFor rounds members table who at situation → GoesDrainRound members table who at book rows situation after
-        → RestsFor (suc rounds) members table who at after }
+        → IsIdleFor rounds members table who at situation → GoesDrainRound members table who at book rows situation after
+        → IsIdleFor (suc rounds) members table who at after }
     ensures alone { (rounds members : ℕ) (table : Table) (who : ℕ) (at : ℤ) (situation : Situation)
-        → RestsFor rounds members table who at situation → LeadsAlone members table who situation }
+        → IsIdleFor rounds members table who at situation → LeadsAlone members table who situation }
     ensures rests { (rounds members : ℕ) (table : Table) (who : ℕ) (at : ℤ) (situation : Situation)
-        → RestsFor rounds members table who at situation → IsAtRest table who at situation }
+        → IsIdleFor rounds members table who at situation → IsIdleAt table who at situation }
     ensures quiet { (members : ℕ) (table : Table) (who : ℕ) (at : ℤ) (situation : Situation)
-        → RestsFor 5 members table who at situation → IsQuiet members table who at situation }
+        → IsIdleFor 5 members table who at situation → IsQuiet members table who at situation }
 {}
 
-/// It is quiet exactly where the replica is at rest and all have learned as much as it.
-pub fn quiet_is_rest_and_level()
+/// It is quiet exactly where the replica is idle and all have learned as much as it.
+pub fn quiet_is_idle_and_caught_up()
     ensures quiet { (members : ℕ) (table : Table) (who : ℕ) (at : ℤ) (situation : Situation)
-        → IsAtRest table who at situation → AreLevelWith members who situation → IsQuiet members table who at situation }
+        → IsIdleAt table who at situation → HaveCaughtUpWith members who situation → IsQuiet members table who at situation }
     ensures rest { (members : ℕ) (table : Table) (who : ℕ) (at : ℤ) (situation : Situation)
-        → IsQuiet members table who at situation → IsAtRest table who at situation }
-    ensures level { (members : ℕ) (table : Table) (who : ℕ) (at : ℤ) (situation : Situation)
-        → IsQuiet members table who at situation → AreLevelWith members who situation }
+        → IsQuiet members table who at situation → IsIdleAt table who at situation }
+    ensures caught_up { (members : ℕ) (table : Table) (who : ℕ) (at : ℤ) (situation : Situation)
+        → IsQuiet members table who at situation → HaveCaughtUpWith members who situation }
 {}
 
 /// Where a legal book comes to a quiet situation in which the replica leads alone, it ends quietly, with its log.
@@ -77,9 +77,9 @@ pub fn the_end_is_quiet()
         → EndsQuietly members table book who at situation log }
 {}
 
-/// There is a legal book in which a replica leads alone and is at rest, and five rounds of a drain come after it. After each of them
+/// There is a legal book in which a replica leads alone and is idle, and five rounds of a drain come after it. After each of them
 /// the book is legal, and a round may come again.
-pub fn a_leader_may_rest()
+pub fn a_leader_may_become_idle()
     ensures { (members : ℕ) × (table : Table) × (who : ℕ) × (at : ℤ) × (book : List Row) × (rows : List Row) × (situation : Situation) × (after : Situation)
-        × RestsFor 5 members table who at situation × GoesDrainRound members table who at book rows situation after }
+        × IsIdleFor 5 members table who at situation × GoesDrainRound members table who at book rows situation after }
 {}

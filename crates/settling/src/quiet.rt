@@ -1,4 +1,4 @@
-//! Laws of quiet: a leader that rests where all have learned as much. Each is the contract of a function that does nothing.
+//! Laws of quiet: a leader that is idle where all have learned as much. Each is the contract of a function that does nothing.
 ghost use Rattle.std.specs.Prelude.{◌≡◌, ℕ, ◌<◌, ℤ, List, length};
 ghost use Rattle.paxos_base.specs.declared.entry.Entry.{Entry};
 ghost use Rattle.paxos_base.specs.declared.entry.Vote.{Vote};
@@ -10,23 +10,24 @@ ghost use Rattle.step_spec.specs.State.{prefix_of};
 ghost use Rattle.agreement.specs.Log.{IsLog};
 ghost use Rattle.history.specs.Book.{Row, standing_after, votes_in};
 ghost use Rattle.history.specs.Legal.{IsLegal};
-ghost use Rattle.synchronous_rounds.specs.Calm.{Calm};
-ghost use Rattle.synchronous_rounds.specs.Ruled.{Progress};
+ghost use Rattle.synchronous_rounds.specs.Cluster.{Cluster};
+ghost use Rattle.synchronous_rounds.specs.LedAlone.{Progress};
 ghost use Rattle.script_semantics.specs.Settling.{IsQuiet};
 ghost use Rattle.script_semantics.specs.Situation.{Situation};
-ghost use Rattle.synchronous_rounds.specs.CatchUp.{AreLevel, IsIdle};
+ghost use Rattle.synchronous_rounds.specs.CatchUp.{HaveCaughtUp, IsIdle};
 ghost use Rattle.settling.specs.Quiet.{EndsQuietly, HasPromisedMost, IsSituationOf};
 
-/// A leader that rests, where all have learned as much, leads in a quiet situation, and nobody has promised a higher ballot.
+/// A leader that is idle, where all have learned as much, leads in a quiet situation, and nobody has promised a higher ballot.
 /// A legal book that comes to it ends quietly.
-pub fn level_and_idle_is_quiet()
-    ensures quiet { (members leader : ℕ) (best : List Vote) (at : Progress) (now : ℤ) (calm : Calm) (situation : Situation)
-        → IsIdle members leader best at now calm → AreLevel members at.prefix calm → IsSituationOf calm situation
+pub fn caught_up_and_idle_is_quiet()
+    ensures quiet { (members leader : ℕ) (best : List Vote) (at : Progress) (now : ℤ) (cluster : Cluster) (situation : Situation)
+        → IsIdle members leader best at now cluster → HaveCaughtUp members at.prefix cluster → IsSituationOf cluster situation
         → IsQuiet members at.table leader now situation }
-    ensures highest { (members leader : ℕ) (best : List Vote) (at : Progress) (now : ℤ) (calm : Calm) (situation : Situation)
-        → IsIdle members leader best at now calm → IsSituationOf calm situation → HasPromisedMost members leader situation }
-    ensures ends { (members leader : ℕ) (best : List Vote) (at : Progress) (now : ℤ) (calm : Calm) (situation : Situation) (book : List Row) (log : List Entry)
-        → IsIdle members leader best at now calm → AreLevel members at.prefix calm → IsSituationOf calm situation
+    ensures highest { (members leader : ℕ) (best : List Vote) (at : Progress) (now : ℤ) (cluster : Cluster) (situation : Situation)
+        → IsIdle members leader best at now cluster → IsSituationOf cluster situation → HasPromisedMost members leader situation }
+    ensures ends { (members leader : ℕ) (best : List Vote) (at : Progress) (now : ℤ) (cluster : Cluster) (situation : Situation) (book : List Row)
+        (log : List Entry)
+        → IsIdle members leader best at now cluster → HaveCaughtUp members at.prefix cluster → IsSituationOf cluster situation
         → IsLegal members at.table book → situation.standing ≡ standing_after members (first_rows at.table) book → IsLog members (votes_in book) log
         → EndsQuietly members at.table book leader now situation log }
 {}

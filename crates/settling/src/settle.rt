@@ -15,8 +15,8 @@ ghost use Rattle.settling.specs.Leads.{GoesDrainRound};
 ghost use Rattle.settling.specs.Rounds.{IsFaultless};
 ghost use Rattle.settling.specs.Campaigns.{GoesCampaign};
 ghost use Rattle.settling.specs.Drain.{HasFewerLeft};
-ghost use Rattle.settling.specs.Rest.{IsAtRest};
-ghost use Rattle.settling.specs.Settles.{HasRestedFor, LeadsNow, LeadsSoon};
+ghost use Rattle.settling.specs.Idle.{IsIdleAt};
+ghost use Rattle.settling.specs.Settles.{HasBeenIdleFor, LeadsNow, LeadsSoon};
 
 /// Where no letter waits and the coordinator of a legal book campaigns, it leads after four rounds of a drain at most: each round
 /// brings it nearer, and once it leads it does so after each. Where it is quiet, it leads already.
@@ -48,28 +48,28 @@ pub fn settling_leaves_no_fault()
         → IsFaultless members after }
 {}
 
-/// One that leads was at rest before a round of a drain, or fewer rounds are left to it after it, by its launch table, which it has.
-pub fn one_comes_to_rest()
+/// One that leads was idle before a round of a drain, or fewer rounds are left to it after it, by its launch table, which it has.
+pub fn one_becomes_idle()
     ensures nearer { (members : ℕ) (table : Table) (who : ℕ) (at : ℤ) (book rows : List Row) (situation after : Situation)
         → LeadsNow members table who situation → GoesDrainRound members table who at book rows situation after
-        → IsAtRest table who at situation ⊎ HasFewerLeft table who situation after }
+        → IsIdleAt table who at situation ⊎ HasFewerLeft table who situation after }
     ensures launch { (members : ℕ) (table : Table) (who : ℕ) (situation : Situation)
         → LeadsNow members table who situation → (rows : List JobRow) × IsLaunchTable table (situation.standing.replicas who) rows }
 {}
 
-/// One that leads and is at rest stays so through rounds of a drain at that instant, and after five of them it is quiet.
-pub fn one_at_rest_is_quiet_soon()
+/// One that leads and is idle stays so through rounds of a drain at that instant, and after five of them it is quiet.
+pub fn one_idle_is_quiet_soon()
     ensures now { (members : ℕ) (table : Table) (who : ℕ) (at : ℤ) (situation : Situation)
-        → LeadsNow members table who situation → IsAtRest table who at situation → HasRestedFor 0 members table who at situation }
+        → LeadsNow members table who situation → IsIdleAt table who at situation → HasBeenIdleFor 0 members table who at situation }
     ensures on { (rounds members : ℕ) (table : Table) (who : ℕ) (at : ℤ) (book rows : List Row) (situation after : Situation)
-        → HasRestedFor rounds members table who at situation → GoesDrainRound members table who at book rows situation after
-        → HasRestedFor (suc rounds) members table who at after }
+        → HasBeenIdleFor rounds members table who at situation → GoesDrainRound members table who at book rows situation after
+        → HasBeenIdleFor (suc rounds) members table who at after }
     ensures leads { (rounds members : ℕ) (table : Table) (who : ℕ) (at : ℤ) (situation : Situation)
-        → HasRestedFor rounds members table who at situation → LeadsNow members table who situation }
+        → HasBeenIdleFor rounds members table who at situation → LeadsNow members table who situation }
     ensures rests { (rounds members : ℕ) (table : Table) (who : ℕ) (at : ℤ) (situation : Situation)
-        → HasRestedFor rounds members table who at situation → IsAtRest table who at situation }
+        → HasBeenIdleFor rounds members table who at situation → IsIdleAt table who at situation }
     ensures quiet { (members : ℕ) (table : Table) (who : ℕ) (at : ℤ) (situation : Situation)
-        → HasRestedFor 5 members table who at situation → IsQuiet members table who at situation }
+        → HasBeenIdleFor 5 members table who at situation → IsQuiet members table who at situation }
 {}
 
 /// Where a legal book comes to a quiet situation in which the replica leads, it ends quietly, with its log.
@@ -81,7 +81,7 @@ pub fn the_whole_log_is_settled()
 {}
 
 /// There is a legal book of one replica, and one of more, in which no letter waits and the coordinator campaigns; one in which a replica
-/// is on its way to lead or leads, and a round of a drain follows; and one in which it leads and was at rest five rounds ago, and one
+/// is on its way to lead or leads, and a round of a drain follows; and one in which it leads and was idle five rounds ago, and one
 /// more follows.
 pub fn a_cluster_may_settle()
     ensures one { (table : Table) × (at : ℤ) × (book : List Row) × (rows : List Row) × (situation : Situation) × (after : Situation)
@@ -93,6 +93,6 @@ pub fn a_cluster_may_settle()
         × (situation : Situation) × (after : Situation) × LeadsSoon (suc rounds) members table who situation
         × GoesDrainRound members table who at book rows situation after }
     ensures rests { (members : ℕ) × (table : Table) × (who : ℕ) × (at : ℤ) × (book : List Row) × (rows : List Row)
-        × (situation : Situation) × (after : Situation) × HasRestedFor 5 members table who at situation
+        × (situation : Situation) × (after : Situation) × HasBeenIdleFor 5 members table who at situation
         × GoesDrainRound members table who at book rows situation after }
 {}

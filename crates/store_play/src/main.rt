@@ -1,6 +1,6 @@
 //! Plays a store and a node on a disk in memory by hand, as commands say, and writes what comes of each;
 //! docs/WIRE.md is its manual. Proved is that it is safe, and asks for no call that a store or a node may not be
-//! asked for: a store that is attached is settled on its disk and keeps what it says (`IsStoreAttached`), and a change is
+//! asked for: a store that is attached is at rest on its disk and keeps what it says (`IsStoreAttached`), and a change is
 //! saved only if it may follow what is kept. `play` goes over the lines, `parse` and `change` read commands, `seat`
 //! says who has the disk, `bare` has a disk that nobody has, `attached` a store, `running` a node.
 #![tactic(auto)]

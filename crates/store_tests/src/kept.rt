@@ -2,7 +2,7 @@
 ghost use Rattle.std.specs.Prelude.{◌≡◌, IfOk, OnOk};
 ghost use Rattle.paxos_base.specs.Durable.{after_delta};
 ghost use Rattle.store_format.specs.Order.{ChangeMayFollow};
-ghost use Rattle.replica_store.specs.Store.{jobs_of_store, StoreKeeps, IsStoreSettled};
+ghost use Rattle.replica_store.specs.Store.{jobs_of_store, StoreKeeps, IsStoreAtRest};
 
 use crate::area_text::fill;
 use crate::change::{Change, JOBS, delta_of};
@@ -31,7 +31,7 @@ struct Kept {
 
 impl Kept {
     fn attach<D: Disk>(alloc: Global, disk: &mut D) -> Result<Kept, StoreFault>
-        ensures settled { IfOk result (λ kept. IsStoreSettled D.view disk.new kept.store) }
+        ensures rests { IfOk result (λ kept. IsStoreAtRest D.view disk.new kept.store) }
         ensures keeps { IfOk result (λ kept. StoreKeeps kept.store kept.durable) }
         ensures jobs { IfOk result (λ kept. jobs_of_store kept.store ≡ 2) }
     {
@@ -40,11 +40,11 @@ impl Kept {
     }
 
     fn save<D: Disk>(&mut self, disk: &mut D, delta: Delta) -> Result<(), StoreFault>
-        requires settled { IsStoreSettled D.view disk.old self.old.store }
+        requires rests { IsStoreAtRest D.view disk.old self.old.store }
         requires keeps { StoreKeeps self.old.store self.old.durable }
         requires jobs { jobs_of_store self.old.store ≡ 2 }
         requires follows { ChangeMayFollow 2 self.old.durable delta }
-        ensures settled { OnOk result (IsStoreSettled D.view disk.new self.new.store) }
+        ensures rests { OnOk result (IsStoreAtRest D.view disk.new self.new.store) }
         ensures keeps { OnOk result (StoreKeeps self.new.store self.new.durable) }
         ensures jobs { jobs_of_store self.new.store ≡ 2 }
     {
@@ -60,7 +60,7 @@ impl Kept {
         disk: &mut D,
         changes: &[Change],
     ) -> Result<(), StoreFault>
-        requires settled { IsStoreSettled D.view disk.old self.old.store }
+        requires rests { IsStoreAtRest D.view disk.old self.old.store }
         requires keeps { StoreKeeps self.old.store self.old.durable }
         requires jobs { jobs_of_store self.old.store ≡ 2 }
     {

@@ -18,9 +18,9 @@ use Rattle.step_spec.specs.State.{Identity, State, prefix_of, promised_in}
 use Rattle.step_spec.specs.Step.{Answer, Event, Hear, IsLaunchTable, Plan, Tick, step}
 use Rattle.agreement.specs.Transition.{identity_of}
 use Rattle.step_spec.proofs.Said.{stays_coherent}
-use Rattle.synchronous_rounds.specs.Calm.{Advice, ArePlanned, Calm, HeardLetter, IsAdvised, after_events, answer_events, before_tick, calm_round, events_at, hear_events, letter_from, letters_to}
+use Rattle.synchronous_rounds.specs.Cluster.{Advice, ArePlanned, Cluster, HeardLetter, IsAdvised, after_events, answer_events, before_tick, cluster_round, events_at, hear_events, letter_from, letters_to}
 use Rattle.synchronous_rounds.specs.Flights.{with_base}
-use Rattle.synchronous_rounds.specs.Ruled.{IsHolding, Occurs, Progress}
+use Rattle.synchronous_rounds.specs.LedAlone.{IsHolding, Occurs, Progress}
 use Rattle.synchronous_rounds.proofs.FollowerLemmas.{behind_tick}
 use Rattle.synchronous_rounds.proofs.Lists.{sent_in}
 use Rattle.synchronous_rounds.proofs.MailLemmas.{occurs_left, occurs_letter, occurs_next, occurs_right}
@@ -94,32 +94,32 @@ candidate_tick self first heard best at now plan state holding planned =
 -- ---- the round
 
 -- all others answer a campaign
-pub first_answered : (members candidate : ℕ) (best : List Vote) (at : Progress) (now : ℤ) (advice : ℕ → Advice) (answers : ℕ → Option SchedRow) (calm : Calm) → HasCampaigned members candidate best at calm → IsAdvised members at.table now advice calm → (base : ℕ) × HaveAllAnswered members candidate best (with_base base at) (calm_round members now advice answers calm)
-first_answered members candidate best at now advice answers calm campaigned advised =
-    (mine.0, record { one = campaigned.one; stands = subst (λ s. IsCandidate best (with_base mine.0 at) candidate s) (sym (round_after members now advice answers calm candidate)) mine.1; answered = answered })
+pub first_answered : (members candidate : ℕ) (best : List Vote) (at : Progress) (now : ℤ) (advice : ℕ → Advice) (answers : ℕ → Option SchedRow) (cluster : Cluster) → HasCampaigned members candidate best at cluster → IsAdvised members at.table now advice cluster → (base : ℕ) × HaveAllAnswered members candidate best (with_base base at) (cluster_round members now advice answers cluster)
+first_answered members candidate best at now advice answers cluster campaigned advised =
+    (mine.0, record { one = campaigned.one; stands = subst (λ s. IsCandidate best (with_base mine.0 at) candidate s) (sym (round_after members now advice answers cluster candidate)) mine.1; answered = answered })
   where
-    next : Calm
-    next = calm_round members now advice answers calm
+    next : Cluster
+    next = cluster_round members now advice answers cluster
 
     self : ℕ → Identity
     self who = identity_of members who
 
-    quiet : before_tick members advice calm candidate ≡ calm.replicas candidate
+    quiet : before_tick members advice cluster candidate ≡ cluster.replicas candidate
     quiet = rw (campaigned.alone, campaigned.unread) refl
 
-    mine : (base : ℕ) × IsCandidate best (with_base base at) candidate (after_acts (step (self candidate) (Tick now (advice candidate).plan) (before_tick members advice calm candidate)) (before_tick members advice calm candidate))
+    mine : (base : ℕ) × IsCandidate best (with_base base at) candidate (after_acts (step (self candidate) (Tick now (advice candidate).plan) (before_tick members advice cluster candidate)) (before_tick members advice cluster candidate))
     mine =
-        let planned = round_planned members at.table now advice calm candidate campaigned.one.member advised in
-        candidate_tick (self candidate) at.prefix (only_member candidate) best at now (advice candidate).plan (before_tick members advice calm candidate)
+        let planned = round_planned members at.table now advice cluster candidate campaigned.one.member advised in
+        candidate_tick (self candidate) at.prefix (only_member candidate) best at now (advice candidate).plan (before_tick members advice cluster candidate)
         (subst (λ s. IsCandidate best at candidate s) (sym quiet) campaigned.stands) planned.0
 
     answered : (who : ℕ) → who < members → (who ≡ candidate → ⊥) → Replies who at.ballot at.prefix (next.mails candidate) (next.replicas who)
     answered who below apart =
         let last : List Event = Hear candidate (Prepare at.ballot at.prefix ∷ []) ∷ Tick now (advice who).plan ∷ [] in
-        let front : List Event = answer_events (calm.waits who) (advice who).rows in
+        let front : List Event = answer_events (cluster.waits who) (advice who).rows in
         let mail = campaigned.asked who below apart in
-        let planned = subst (λ m. ArePlanned (self who) at.table (front ++ (hear_events m ++ Tick now (advice who).plan ∷ [])) (calm.replicas who)) mail (advised.planned who below) in
-        let there = replies_round (self who) at.table candidate at.ballot at.prefix now (advice who).plan (calm.waits who) (advice who).rows (calm.replicas who) campaigned.one.more (omega (arith, below, campaigned.one.few)) (advised.coherent who below) (campaigned.short who below) (campaigned.fresh who below apart) planned in
-        replies_in who at.ballot at.prefix (next.replicas who) (letters_to (self who) candidate (events_at now advice calm who) (calm.replicas who)) (next.mails candidate)
-        (λ message occurs. occurs_next members now advice answers calm who candidate message below occurs)
-        (subst (λ m. Replies who at.ballot at.prefix (letters_to (self who) candidate (front ++ (hear_events m ++ Tick now (advice who).plan ∷ [])) (calm.replicas who)) (after_events (self who) (front ++ (hear_events m ++ Tick now (advice who).plan ∷ [])) (calm.replicas who))) (sym mail) there)
+        let planned = subst (λ m. ArePlanned (self who) at.table (front ++ (hear_events m ++ Tick now (advice who).plan ∷ [])) (cluster.replicas who)) mail (advised.planned who below) in
+        let there = replies_round (self who) at.table candidate at.ballot at.prefix now (advice who).plan (cluster.waits who) (advice who).rows (cluster.replicas who) campaigned.one.more (omega (arith, below, campaigned.one.few)) (advised.coherent who below) (campaigned.short who below) (campaigned.fresh who below apart) planned in
+        replies_in who at.ballot at.prefix (next.replicas who) (letters_to (self who) candidate (events_at now advice cluster who) (cluster.replicas who)) (next.mails candidate)
+        (λ message occurs. occurs_next members now advice answers cluster who candidate message below occurs)
+        (subst (λ m. Replies who at.ballot at.prefix (letters_to (self who) candidate (front ++ (hear_events m ++ Tick now (advice who).plan ∷ [])) (cluster.replicas who)) (after_events (self who) (front ++ (hear_events m ++ Tick now (advice who).plan ∷ [])) (cluster.replicas who))) (sym mail) there)

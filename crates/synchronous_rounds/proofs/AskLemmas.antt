@@ -12,13 +12,13 @@ use Rattle.step_spec.specs.State.{Identity, State, prefix_of}
 use Rattle.step_spec.specs.Step.{Tick, Plan, step}
 use Rattle.step_spec.proofs.Lists.{nothing_in}
 use Rattle.agreement.specs.Transition.{identity_of}
-use Rattle.synchronous_rounds.specs.Calm.{Advice, Calm, HeardLetter, after_events, calm_round, hear_events, letter_from, letters_to}
-use Rattle.synchronous_rounds.specs.Ruled.{AreWithin, IsBehind, IsRuled, Occurs, StaysWithin}
+use Rattle.synchronous_rounds.specs.Cluster.{Advice, Cluster, HeardLetter, after_events, cluster_round, hear_events, letter_from, letters_to}
+use Rattle.synchronous_rounds.specs.LedAlone.{AreWithin, IsBehind, IsLedAlone, Occurs, StaysWithin}
 use Rattle.synchronous_rounds.proofs.FollowerLemmas.{behind_all, behind_hear}
 use Rattle.synchronous_rounds.proofs.Lists.{acts_append, sent_in}
 use Rattle.synchronous_rounds.proofs.MailLemmas.{occurs_left, occurs_letter, occurs_next, occurs_right}
 use Rattle.synchronous_rounds.specs.CatchUp.{HasSaidToAll, HaveAsked}
-use Rattle.synchronous_rounds.proofs.KeepLemmas.{answer_after, answer_letters, keeps_all, keeps_mail, level_mail, stays_level}
+use Rattle.synchronous_rounds.proofs.KeepLemmas.{answer_after, answer_letters, keeps_all, keeps_mail, caught_up_mail, stays_caught_up}
 use Rattle.due_set.proofs.Rising.{Contains-head as in_first, Contains-tail as in_rest, Contains-cases as cons_cases}
 
 -- ---- a letter
@@ -53,7 +53,7 @@ asks_all self b p from ballot (message ∷ messages) once state within has behin
     let next = behind_hear self b p from message once state within.0 behind in
     rw (acts_append acts rest state) (elim (cons_cases message messages (Lead ballot p) has) [
       | inl same ↦ elim (subst (λ m. AskedBy p from (hear self from m once state) (after_acts (hear self from m once state) state)) (sym same) (asks_hear self b p from ballot once state behind)) [
-        | inl all ↦ inl (stays_level self b p from messages later now within.1 next (omega (arith, all)))
+        | inl all ↦ inl (stays_caught_up self b p from messages later now within.1 next (omega (arith, all)))
         | inr lacks ↦
             let up = keeps_all self b p from messages later now within.1 next in
             inr (lacks.0, Contains-append_left acts rest _ lacks.1, omega (arith, up, lacks.2))
@@ -77,7 +77,7 @@ asks_mail self b p c now plan (letter ∷ mail) state within occurs behind =
           let to : letter.from ≡ c = ap (λ l. l.from) same ∙ occurs.is_from in
           let here : Contains letter.messages (Lead b p) = subst (λ l. Contains l.messages (Lead b p)) (sym same) occurs.has in
           elim (asks_all self b p letter.from b letter.messages not_yet state within.0 here behind) [
-            | inl all ↦ inl (level_mail self b p now plan mail (after_acts acts state) within.1 next (omega (arith, all)))
+            | inl all ↦ inl (caught_up_mail self b p now plan mail (after_acts acts state) within.1 next (omega (arith, all)))
             | inr lacks ↦
                 let up = keeps_mail self b p now plan mail (after_acts acts state) within.1 next in
                 let sent = sent_in self.me letter.from (AskFrom lacks.0) acts lacks.1 in
@@ -95,18 +95,18 @@ asks_mail self b p c now plan (letter ∷ mail) state within occurs behind =
     ]
 
 -- all that lack something ask for it
-pub asked_next : (members leader ballot prefix : ℕ) (now : ℤ) (advice : ℕ → Advice) (answers : ℕ → Option SchedRow) (calm : Calm) → IsRuled members leader ballot prefix calm → HasSaidToAll members leader ballot prefix calm → HaveAsked members leader prefix (calm_round members now advice answers calm)
-asked_next members leader ballot prefix now advice answers calm ruled said who below apart =
+pub asked_next : (members leader ballot prefix : ℕ) (now : ℤ) (advice : ℕ → Advice) (answers : ℕ → Option SchedRow) (cluster : Cluster) → IsLedAlone members leader ballot prefix cluster → HasSaidToAll members leader ballot prefix cluster → HaveAsked members leader prefix (cluster_round members now advice answers cluster)
+asked_next members leader ballot prefix now advice answers cluster led_alone said who below apart =
     let self = identity_of members who in
-    let behind = ruled.behind who below apart in
-    let rest = hear_events (calm.mails who) ++ Tick now (advice who).plan ∷ [] in
-    let after = answer_after self (calm.waits who) (advice who).rows rest (calm.replicas who) behind.follows in
-    let letters = answer_letters self leader (calm.waits who) (advice who).rows rest (calm.replicas who) behind.follows in
-    elim (asks_mail self ballot prefix leader now (advice who).plan (calm.mails who) (calm.replicas who) (ruled.within who below) (said who below apart) behind) [
+    let behind = led_alone.behind who below apart in
+    let rest = hear_events (cluster.mails who) ++ Tick now (advice who).plan ∷ [] in
+    let after = answer_after self (cluster.waits who) (advice who).rows rest (cluster.replicas who) behind.follows in
+    let letters = answer_letters self leader (cluster.waits who) (advice who).rows rest (cluster.replicas who) behind.follows in
+    elim (asks_mail self ballot prefix leader now (advice who).plan (cluster.mails who) (cluster.replicas who) (led_alone.within who below) (said who below apart) behind) [
       | inl all ↦ inl (rw after all)
       | inr lacks ↦ inr (record {
         slot = lacks.0;
-        asks = occurs_next members now advice answers calm who leader (AskFrom lacks.0) below (rw letters lacks.1);
+        asks = occurs_next members now advice answers cluster who leader (AskFrom lacks.0) below (rw letters lacks.1);
         short = rw after lacks.2;
       })
     ]

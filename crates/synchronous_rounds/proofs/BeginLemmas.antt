@@ -27,7 +27,7 @@ use Rattle.step_spec.specs.Propose.{answer_of, bound_by, end_if, follow_intent, 
 use Rattle.step_spec.specs.State.{Identity, State, prefix_of}
 use Rattle.synchronous_rounds.specs.Begins.{NextEntry, proposal_of}
 use Rattle.synchronous_rounds.specs.Flights.{IsNeeded, Proposes}
-use Rattle.synchronous_rounds.specs.Ruled.{IsLeading, Progress}
+use Rattle.synchronous_rounds.specs.LedAlone.{IsLeading, Progress}
 use Rattle.synchronous_rounds.proofs.CountLemmas.{few_alone, in_with}
 use Rattle.due_set.proofs.Rising.{Contains-head as in_first}
 

@@ -24,8 +24,8 @@ use Rattle.step_spec.specs.Message.{Message, Prepare, Promise, Accept, Accepted,
 use Rattle.step_spec.specs.Propose.{answer, answer_of, end_if, follow_intent, is_long, is_open, lead_on, propose, proposal, tick, tick_of}
 use Rattle.step_spec.specs.State.{Identity, State, prefix_of, promised_in}
 use Rattle.step_spec.specs.Step.{Answer, Event, Hear, Plan, Tick, step}
-use Rattle.synchronous_rounds.specs.Calm.{HeardLetter, after_events, answer_events, hear_events, letter_from, letters_to}
-use Rattle.synchronous_rounds.specs.Ruled.{AreWithin, StaysWithin}
+use Rattle.synchronous_rounds.specs.Cluster.{HeardLetter, after_events, answer_events, hear_events, letter_from, letters_to}
+use Rattle.synchronous_rounds.specs.LedAlone.{AreWithin, StaysWithin}
 use Rattle.synchronous_rounds.proofs.ActLemmas.{observed, rebased_prefix, silent_ask, silent_sends, silent_snapshot}
 use Rattle.synchronous_rounds.proofs.Lists.{acts_append, all_join}
 

@@ -14,8 +14,8 @@ use Rattle.step_spec.specs.Message.{Message, Promise, ballot_in}
 use Rattle.step_spec.specs.State.{Identity, State}
 use Rattle.step_spec.specs.Step.{step}
 use Rattle.step_spec.proofs.Lists.{nothing_in}
-use Rattle.synchronous_rounds.specs.Calm.{HeardLetter, after_events, hear_events}
-use Rattle.synchronous_rounds.specs.Ruled.{AreFrom, AreWithin, IsHolding, IsLeading, Occurs, Progress, StaysWithin}
+use Rattle.synchronous_rounds.specs.Cluster.{HeardLetter, after_events, hear_events}
+use Rattle.synchronous_rounds.specs.LedAlone.{AreFrom, AreWithin, IsHolding, IsLeading, Occurs, Progress, StaysWithin}
 use Rattle.synchronous_rounds.proofs.ActLemmas.{observed}
 use Rattle.synchronous_rounds.proofs.CountLemmas.{all_are_enough, few_alone, in_with}
 use Rattle.synchronous_rounds.proofs.LeaderLemmas.{free_hear, hold_line}

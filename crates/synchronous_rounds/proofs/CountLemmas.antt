@@ -16,9 +16,9 @@ use Rattle.step_spec.specs.Message.{Message, Accepted, ballot_in}
 use Rattle.step_spec.specs.State.{State, prefix_of}
 use Rattle.step_spec.specs.Step.{step}
 use Rattle.step_spec.proofs.Lists.{nothing_in}
-use Rattle.synchronous_rounds.specs.Calm.{HeardLetter, after_events, hear_events}
+use Rattle.synchronous_rounds.specs.Cluster.{HeardLetter, after_events, hear_events}
 use Rattle.synchronous_rounds.specs.Flights.{IsFlight, Proposal, Proposes, learned_by}
-use Rattle.synchronous_rounds.specs.Ruled.{AreFrom, AreWithin, IsLeading, StaysWithin, Occurs}
+use Rattle.synchronous_rounds.specs.LedAlone.{AreFrom, AreWithin, IsLeading, StaysWithin, Occurs}
 use Rattle.synchronous_rounds.proofs.ActLemmas.{observed}
 use Rattle.synchronous_rounds.proofs.LeaderLemmas.{free_hear, lead_line, leading_observed}
 use Rattle.synchronous_rounds.proofs.Lists.{acts_append}

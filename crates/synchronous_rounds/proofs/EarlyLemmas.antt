@@ -24,8 +24,8 @@ use Rattle.step_spec.specs.State.{Identity, State, prefix_of, promised_in}
 use Rattle.step_spec.specs.Step.{Event, Hear, step}
 use Rattle.step_spec.proofs.LineLemmas.{acts_sound}
 use Rattle.step_spec.proofs.Said.{setting_of, stays_coherent, step_may_be_done}
-use Rattle.synchronous_rounds.specs.Calm.{HeardLetter, after_events, hear_events, letter_from, letters_to}
-use Rattle.synchronous_rounds.specs.Ruled.{AreWithin, Occurs, StaysWithin}
+use Rattle.synchronous_rounds.specs.Cluster.{HeardLetter, after_events, hear_events, letter_from, letters_to}
+use Rattle.synchronous_rounds.specs.LedAlone.{AreWithin, Occurs, StaysWithin}
 use Rattle.synchronous_rounds.proofs.ActLemmas.{rebased_prefix, silent_ask, silent_sends, silent_snapshot}
 use Rattle.synchronous_rounds.proofs.Lists.{acts_append}
 use Rattle.synchronous_rounds.proofs.MailLemmas.{occurs_left, occurs_letter, occurs_right}

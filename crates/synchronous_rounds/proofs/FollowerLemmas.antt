@@ -22,8 +22,8 @@ use Rattle.step_spec.specs.Propose.{answer, answer_of, is_long, is_open, tick, t
 use Rattle.step_spec.specs.State.{Identity, State, prefix_of, promised_in}
 use Rattle.step_spec.specs.Step.{Tick, Answer, Plan, step}
 use Rattle.step_spec.proofs.Lists.{nothing_in}
-use Rattle.synchronous_rounds.specs.Calm.{HeardLetter, after_events, answer_events, hear_events}
-use Rattle.synchronous_rounds.specs.Ruled.{AreWithin, IsBehind, StaysWithin}
+use Rattle.synchronous_rounds.specs.Cluster.{HeardLetter, after_events, answer_events, hear_events}
+use Rattle.synchronous_rounds.specs.LedAlone.{AreWithin, IsBehind, StaysWithin}
 use Rattle.synchronous_rounds.proofs.ActLemmas.{follows_later, follows_on, observed, rebased_prefix, silent_ask, silent_sends, silent_snapshot}
 use Rattle.synchronous_rounds.proofs.Lists.{acts_append}
 use Rattle.due_set.proofs.Rising.{Contains-head as in_first, Contains-tail as in_rest, Contains-cases as cons_cases}

@@ -16,11 +16,11 @@ use Rattle.step_spec.specs.State.{Identity, State}
 use Rattle.step_spec.specs.Step.{Event, Tick, step}
 use Rattle.agreement.specs.Transition.{identity_of}
 use Rattle.synchronous_rounds.specs.Begins.{Begins, proposal_of}
-use Rattle.synchronous_rounds.specs.Calm.{Advice, ArePlanned, Calm, HeardLetter, IsAdvised, after_events, answer_events, before_tick, calm_round, hear_events, letter_from, letters_to}
+use Rattle.synchronous_rounds.specs.Cluster.{Advice, ArePlanned, Cluster, HeardLetter, IsAdvised, after_events, answer_events, before_tick, cluster_round, hear_events, letter_from, letters_to}
 use Rattle.synchronous_rounds.specs.Flights.{Proposal, Proposes, asked_vote}
 use Rattle.synchronous_rounds.specs.Measure.{wait_of}
 use Rattle.synchronous_rounds.specs.Rounds.{HasAnswered, IsAnswerable, IsFreeNow, Lands, WaitsOn}
-use Rattle.synchronous_rounds.specs.Ruled.{IsLeading, Occurs, Progress}
+use Rattle.synchronous_rounds.specs.LedAlone.{IsLeading, Occurs, Progress}
 use Rattle.synchronous_rounds.proofs.BeginLemmas.{ends, next_entry, proposes_it, proposing, takes_end}
 use Rattle.synchronous_rounds.proofs.CountLemmas.{GoesOnBy, goes_mail}
 use Rattle.synchronous_rounds.proofs.FlightLemmas.{BeginsNext, WaitsStill, comes_to, lands}
@@ -31,25 +31,25 @@ use Rattle.synchronous_rounds.proofs.OutcomeLemmas.{asks_in, tick_outcome}
 
 -- ---- nothing waits
 
-pub free_next : (members leader : ℕ) (best : List Vote) (at : Progress) (now : ℤ) (advice : ℕ → Advice) (answers : ℕ → Option SchedRow) (calm : Calm) → IsFreeNow members leader best at calm → IsAdvised members at.table now advice calm → Begins members leader best at now advice calm (calm_round members now advice answers calm)
-free_next members leader best at now advice answers calm free advised =
-    tick_outcome members leader best at now advice answers calm free.free.ruled.member free.free.ruled.few free.free.ruled.more free.free.sound advised
-    (subst (λ waits. IsLeading best None at (after_events (identity_of members leader) (answer_events waits (advice leader).rows ++ hear_events (calm.mails leader)) (calm.replicas leader))) (sym free.alone)
-    (free_mail (identity_of members leader) best at at.prefix (calm.mails leader) (calm.replicas leader) (omega arith) (free.free.ruled.within leader free.free.ruled.member) free.free.leading))
+pub free_next : (members leader : ℕ) (best : List Vote) (at : Progress) (now : ℤ) (advice : ℕ → Advice) (answers : ℕ → Option SchedRow) (cluster : Cluster) → IsFreeNow members leader best at cluster → IsAdvised members at.table now advice cluster → Begins members leader best at now advice cluster (cluster_round members now advice answers cluster)
+free_next members leader best at now advice answers cluster free advised =
+    tick_outcome members leader best at now advice answers cluster free.free.led_alone.member free.free.led_alone.few free.free.led_alone.more free.free.sound advised
+    (subst (λ waits. IsLeading best None at (after_events (identity_of members leader) (answer_events waits (advice leader).rows ++ hear_events (cluster.mails leader)) (cluster.replicas leader))) (sym free.alone)
+    (free_mail (identity_of members leader) best at at.prefix (cluster.mails leader) (cluster.replicas leader) (omega arith) (free.free.led_alone.within leader free.free.led_alone.member) free.free.leading))
 
 -- ---- an answer waits
 
-pub answer_next : (members leader : ℕ) (best : List Vote) (at : Progress) (row : SchedRow) (now : ℤ) (advice : ℕ → Advice) (answers : ℕ → Option SchedRow) (calm : Calm) → IsAnswerable members leader best at row calm → IsAdvised members at.table now advice calm → (answered : HasAnswered members leader best at now advice calm (calm_round members now advice answers calm))
+pub answer_next : (members leader : ℕ) (best : List Vote) (at : Progress) (row : SchedRow) (now : ℤ) (advice : ℕ → Advice) (answers : ℕ → Option SchedRow) (cluster : Cluster) → IsAnswerable members leader best at row cluster → IsAdvised members at.table now advice cluster → (answered : HasAnswered members leader best at now advice cluster (cluster_round members now advice answers cluster))
     × (answered.proposed.entry ≡ End row.name.job row.name.at row.kind)
 unfolding step answer
-answer_next members leader best at row now advice answers calm able advised = (
+answer_next members leader best at row now advice answers cluster able advised = (
   record {
     proposed = next_entry at able.free.sound entry;
     needed = inr (takes_end at.rows row.name.job row.name.at able.open_there);
-    asked = λ who below apart. occurs_next members now advice answers calm leader who (Accept (asked_vote made)) member
+    asked = λ who below apart. occurs_next members now advice answers cluster leader who (Accept (asked_vote made)) member
         (subst (λ waits. Occurs (letters_to self who (answer_events waits rows ++ rest) old) leader (Accept (asked_vote made))) (sym able.waits)
         (occurs_left (letter_from leader (sent_to leader who acts)) (letters_to self who rest first) leader (Accept (asked_vote made)) (asks_in self at entry acts who is apart)));
-    came = came (comes_to made (λ q. (q ≡ leader) ⊎ Occurs mail q (Accepted at.ballot at.prefix)) now advice answers calm (omega arith) able.free.ruled able.free.sound advised goes);
+    came = came (comes_to made (λ q. (q ≡ leader) ⊎ Occurs mail q (Accepted at.ballot at.prefix)) now advice answers cluster (omega arith) able.free.led_alone able.free.sound advised goes);
   },
   refl,
 )
@@ -61,22 +61,22 @@ answer_next members leader best at row now advice answers calm able advised = (
     rows = (advice leader).rows
 
     old : State
-    old = calm.replicas leader
+    old = cluster.replicas leader
 
     mail : List HeardLetter
-    mail = calm.mails leader
+    mail = cluster.mails leader
 
     rest : List Event
     rest = hear_events mail ++ Tick now (advice leader).plan ∷ []
 
-    next : Calm
-    next = calm_round members now advice answers calm
+    next : Cluster
+    next = cluster_round members now advice answers cluster
 
     member : leader < members
-    member = able.free.ruled.member
+    member = able.free.led_alone.member
 
     small : leader < 8
-    small = omega (arith, member, able.free.ruled.few)
+    small = omega (arith, member, able.free.led_alone.few)
 
     entry : Entry
     entry = End row.name.job row.name.at row.kind
@@ -100,17 +100,17 @@ answer_next members leader best at row now advice answers calm able advised = (
     first = after_acts acts old
 
     there : Proposes made (new_flight at.prefix entry leader) first
-    there = subst (λ some. Proposes made (new_flight at.prefix entry leader) (after_acts some old)) (sym is) (proposes_it self at best able.free.sound entry old able.free.ruled.more small able.free.leading)
+    there = subst (λ some. Proposes made (new_flight at.prefix entry leader) (after_acts some old)) (sym is) (proposes_it self at best able.free.sound entry old able.free.led_alone.more small able.free.leading)
 
-    goes : GoesOnBy made (λ q. (q ≡ leader) ⊎ Occurs mail q (Accepted at.ballot at.prefix)) (before_tick members advice calm leader)
+    goes : GoesOnBy made (λ q. (q ≡ leader) ⊎ Occurs mail q (Accepted at.ballot at.prefix)) (before_tick members advice cluster leader)
     goes = subst (λ waits. GoesOnBy made (λ q. (q ≡ leader) ⊎ Occurs mail q (Accepted at.ballot at.prefix)) (after_events self (answer_events waits rows ++ hear_events mail) old)) (sym able.waits)
-        (goes_mail made (λ q. q ≡ leader) mail first able.free.ruled.few (able.free.ruled.from leader member) (able.free.ruled.within leader member)
+        (goes_mail made (λ q. q ≡ leader) mail first able.free.led_alone.few (able.free.led_alone.from leader member) (able.free.led_alone.within leader member)
         (inl (record { flight = new_flight at.prefix entry leader; proposes = there; has = λ q same. rw same there.flies.own })))
 
-    least : 3 ≤ wait_of (calm.waits leader) (Leader at.ballot best None)
+    least : 3 ≤ wait_of (cluster.waits leader) (Leader at.ballot best None)
     least = subst (λ waits. 3 ≤ wait_of waits (Leader at.ballot best None)) (sym able.waits) (omega arith)
 
-    came : WaitsStill made now advice calm next ⊎ BeginsNext made now advice calm next → WaitsOn made now advice calm next ⊎ Lands made now advice calm next
+    came : WaitsStill made now advice cluster next ⊎ BeginsNext made now advice cluster next → WaitsOn made now advice cluster next ⊎ Lands made now advice cluster next
     came (inl still) = inl (record {
       base = still.waited.base;
       waited = still.waited.waited;
@@ -118,6 +118,6 @@ answer_next members leader best at row now advice answers calm able advised = (
       flight = still.waited.flight;
       proposes = still.waited.proposes;
       uncalled = still.uncalled;
-      nearer = waits_nearer made None (calm.waits leader) (next.waits leader) old (next.replicas leader) able.free.leading (omega (arith, least)) still.waited;
+      nearer = waits_nearer made None (cluster.waits leader) (next.waits leader) old (next.replicas leader) able.free.leading (omega (arith, least)) still.waited;
     })
-    came (inr begins) = inr (lands made now advice calm next able.free.sound (inr (takes_end at.rows row.name.job row.name.at able.open_there)) able.free.leading.learned begins)
+    came (inr begins) = inr (lands made now advice cluster next able.free.sound (inr (takes_end at.rows row.name.job row.name.at able.open_there)) able.free.leading.learned begins)

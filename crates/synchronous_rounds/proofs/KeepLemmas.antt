@@ -15,8 +15,8 @@ use Rattle.step_spec.specs.Message.{Message, Prepare, Promise, Accept, Accepted,
 use Rattle.step_spec.specs.Propose.{answer, is_long, is_open, tick}
 use Rattle.step_spec.specs.State.{Identity, State, prefix_of, promised_in}
 use Rattle.step_spec.specs.Step.{Event, Tick, Plan, step}
-use Rattle.synchronous_rounds.specs.Calm.{HeardLetter, after_events, answer_events, hear_events, letters_to}
-use Rattle.synchronous_rounds.specs.Ruled.{AreWithin, IsBehind, StaysWithin}
+use Rattle.synchronous_rounds.specs.Cluster.{HeardLetter, after_events, answer_events, hear_events, letters_to}
+use Rattle.synchronous_rounds.specs.LedAlone.{AreWithin, IsBehind, StaysWithin}
 use Rattle.synchronous_rounds.proofs.ActLemmas.{observed, rebased_prefix, silent_ask, silent_sends, silent_snapshot}
 use Rattle.synchronous_rounds.proofs.FollowerLemmas.{behind_all, behind_hear, behind_mail, behind_observed, no_accepted, no_answer, no_promise, no_tick}
 use Rattle.synchronous_rounds.proofs.Lists.{acts_append}
@@ -87,8 +87,8 @@ keeps_all self b p from (message ∷ messages) once state within behind =
     rw (acts_append acts (hear_all self from messages later now) state) (omega (arith, first, rest))
 
 -- one that has learned as much as the leader stays so
-pub stays_level : (self : Identity) (b p from : ℕ) (messages : List Message) (once : Once) (state : State) → AllByRecursion (StaysWithin b p) messages → IsBehind b p state → p ≤ prefix_of state → prefix_of (after_acts (hear_all self from messages once state) state) ≡ p
-stays_level self b p from messages once state within behind least =
+pub stays_caught_up : (self : Identity) (b p from : ℕ) (messages : List Message) (once : Once) (state : State) → AllByRecursion (StaysWithin b p) messages → IsBehind b p state → p ≤ prefix_of state → prefix_of (after_acts (hear_all self from messages once state) state) ≡ p
+stays_caught_up self b p from messages once state within behind least =
     let up = keeps_all self b p from messages once state within behind in
     let low = behind_all self b p from messages once state within behind in
     omega (arith, up, low.short, least)
@@ -111,8 +111,8 @@ keeps_mail self b p now plan (letter ∷ mail) state within behind =
     let rest = keeps_mail self b p now plan mail _ within.1 (behind_all self b p letter.from letter.messages not_yet state within.0 behind) in
     omega (arith, first, rest)
 
-pub level_mail : (self : Identity) (b p : ℕ) (now : ℤ) (plan : Plan) (mail : List HeardLetter) (state : State) → AreWithin b p mail → IsBehind b p state → p ≤ prefix_of state → prefix_of (after_events self (hear_events mail ++ Tick now plan ∷ []) state) ≡ p
-level_mail self b p now plan mail state within behind least =
+pub caught_up_mail : (self : Identity) (b p : ℕ) (now : ℤ) (plan : Plan) (mail : List HeardLetter) (state : State) → AreWithin b p mail → IsBehind b p state → p ≤ prefix_of state → prefix_of (after_events self (hear_events mail ++ Tick now plan ∷ []) state) ≡ p
+caught_up_mail self b p now plan mail state within behind least =
     let up = keeps_mail self b p now plan mail state within behind in
     let low = behind_mail self b p now plan mail state within behind in
     omega (arith, up, low.short, least)

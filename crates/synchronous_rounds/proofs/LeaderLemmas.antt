@@ -16,8 +16,8 @@ use Rattle.step_spec.specs.Hear.{Once, hear, hear_all, is_vote_of, known_from, l
 use Rattle.step_spec.specs.Message.{Message, Prepare, Promise, Accept, Accepted, Nack, Known, AskFrom, Snap, Lead, Mention, ballot_in}
 use Rattle.step_spec.specs.State.{Identity, State, prefix_of, promised_in}
 use Rattle.step_spec.specs.Step.{step}
-use Rattle.synchronous_rounds.specs.Calm.{HeardLetter, after_events, hear_events}
-use Rattle.synchronous_rounds.specs.Ruled.{AreWithin, IsHolding, IsLeading, StaysWithin, Progress}
+use Rattle.synchronous_rounds.specs.Cluster.{HeardLetter, after_events, hear_events}
+use Rattle.synchronous_rounds.specs.LedAlone.{AreWithin, IsHolding, IsLeading, StaysWithin, Progress}
 use Rattle.synchronous_rounds.proofs.ActLemmas.{observed, silent_ask, silent_sends, silent_snapshot}
 use Rattle.synchronous_rounds.proofs.Lists.{acts_append}
 

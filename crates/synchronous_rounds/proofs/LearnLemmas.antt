@@ -14,13 +14,13 @@ use Rattle.step_spec.specs.State.{Identity, State, prefix_of}
 use Rattle.step_spec.specs.Step.{Tick, Plan, step}
 use Rattle.step_spec.proofs.Lists.{nothing_in}
 use Rattle.agreement.specs.Transition.{identity_of}
-use Rattle.synchronous_rounds.specs.Calm.{Advice, Calm, HeardLetter, after_events, calm_round, hear_events}
-use Rattle.synchronous_rounds.specs.Ruled.{AreWithin, IsBehind, IsRuled, StaysWithin}
+use Rattle.synchronous_rounds.specs.Cluster.{Advice, Cluster, HeardLetter, after_events, cluster_round, hear_events}
+use Rattle.synchronous_rounds.specs.LedAlone.{AreWithin, IsBehind, IsLedAlone, StaysWithin}
 use Rattle.synchronous_rounds.proofs.ActLemmas.{observed, rebased_prefix}
 use Rattle.synchronous_rounds.proofs.FollowerLemmas.{behind_all, behind_hear}
 use Rattle.synchronous_rounds.proofs.Lists.{acts_append}
 use Rattle.synchronous_rounds.specs.CatchUp.{AreTold, IsTold, TellsWhatIsLacked, entries_from, table_and}
-use Rattle.synchronous_rounds.proofs.KeepLemmas.{answer_after, keeps_all, keeps_hear, level_mail, stays_level}
+use Rattle.synchronous_rounds.proofs.KeepLemmas.{answer_after, keeps_all, keeps_hear, caught_up_mail, stays_caught_up}
 use Rattle.due_set.proofs.Rising.{Contains-cases as cons_cases}
 
 -- ---- a message
@@ -71,7 +71,7 @@ all_split P (x ∷ xs) ys all = let rest = all_split P xs ys all.1 in ((all.0, r
 learns_entries : (self : Identity) (b p from slot : ℕ) (entries : List Entry) (back : List Message) (once : Once) (state : State) → slot + length entries ≡ p → AllByRecursion (StaysWithin b p) (known_from slot entries ++ back) → IsBehind b p state → slot ≤ prefix_of state → prefix_of (after_acts (hear_all self from (known_from slot entries ++ back) once state) state) ≡ p
 unfolding hear_all
 learns_entries self b p from slot [] back once state all within behind least =
-    stays_level self b p from back once state within behind (omega (arith, all, least, behind.short))
+    stays_caught_up self b p from back once state within behind (omega (arith, all, least, behind.short))
 learns_entries self b p from slot (entry ∷ entries) back once state all within behind least =
     let acts = hear self from (Known slot entry) once state in
     let now = after_acts acts state in
@@ -116,38 +116,38 @@ learns_letter self b p from slot messages once state (table_and base rows entrie
 
 -- ---- a round
 
-learns_mail : (self : Identity) (b p c : ℕ) (now : ℤ) (plan : Plan) (mail : List HeardLetter) (who : ℕ) (calm : Calm) (told : IsTold c p who calm) (state : State) → Contains mail told.letter → AreWithin b p mail → IsBehind b p state → told.slot ≤ prefix_of state → prefix_of (after_events self (hear_events mail ++ Tick now plan ∷ []) state) ≡ p
+learns_mail : (self : Identity) (b p c : ℕ) (now : ℤ) (plan : Plan) (mail : List HeardLetter) (who : ℕ) (cluster : Cluster) (told : IsTold c p who cluster) (state : State) → Contains mail told.letter → AreWithin b p mail → IsBehind b p state → told.slot ≤ prefix_of state → prefix_of (after_events self (hear_events mail ++ Tick now plan ∷ []) state) ≡ p
 unfolding step
-learns_mail self b p c now plan [] who calm told state there within behind least = nothing_in there
-learns_mail self b p c now plan (letter ∷ mail) who calm told state there within behind least =
+learns_mail self b p c now plan [] who cluster told state there within behind least = nothing_in there
+learns_mail self b p c now plan (letter ∷ mail) who cluster told state there within behind least =
     let acts = hear_all self letter.from letter.messages not_yet state in
     let next = behind_all self b p letter.from letter.messages not_yet state within.0 behind in
     elim (cons_cases letter mail told.letter there) [
       | inl same ↦
           let tells : TellsWhatIsLacked told.slot p letter.messages = subst (λ l. TellsWhatIsLacked told.slot p l.messages) (sym same) told.tells in
           let all = learns_letter self b p letter.from told.slot letter.messages not_yet state tells within.0 behind least in
-          level_mail self b p now plan mail (after_acts acts state) within.1 next (omega (arith, all))
+          caught_up_mail self b p now plan mail (after_acts acts state) within.1 next (omega (arith, all))
       | inr later ↦
           let more = keeps_all self b p letter.from letter.messages not_yet state within.0 behind in
-          learns_mail self b p c now plan mail who calm told (after_acts acts state) later within.1 next (omega (arith, least, more))
+          learns_mail self b p c now plan mail who cluster told (after_acts acts state) later within.1 next (omega (arith, least, more))
     ]
 
 -- those that are told have learned it
-pub learned_next : (members leader ballot prefix : ℕ) (now : ℤ) (advice : ℕ → Advice) (answers : ℕ → Option SchedRow) (calm : Calm) (who : ℕ) → IsRuled members leader ballot prefix calm → AreTold members leader prefix calm → who < members → (who ≡ leader → ⊥) → prefix_of ((calm_round members now advice answers calm).replicas who) ≡ prefix
-learned_next members leader ballot prefix now advice answers calm who ruled told below apart =
+pub learned_next : (members leader ballot prefix : ℕ) (now : ℤ) (advice : ℕ → Advice) (answers : ℕ → Option SchedRow) (cluster : Cluster) (who : ℕ) → IsLedAlone members leader ballot prefix cluster → AreTold members leader prefix cluster → who < members → (who ≡ leader → ⊥) → prefix_of ((cluster_round members now advice answers cluster).replicas who) ≡ prefix
+learned_next members leader ballot prefix now advice answers cluster who led_alone told below apart =
     let self = identity_of members who in
-    let behind = ruled.behind who below apart in
-    let rest = hear_events (calm.mails who) ++ Tick now (advice who).plan ∷ [] in
-    rw (answer_after self (calm.waits who) (advice who).rows rest (calm.replicas who) behind.follows) (elim (told who below apart) [
-      | inl all ↦ level_mail self ballot prefix now (advice who).plan (calm.mails who) (calm.replicas who) (ruled.within who below) behind (omega (arith, all))
-      | inr is ↦ learns_mail self ballot prefix leader now (advice who).plan (calm.mails who) who calm is (calm.replicas who) is.there (ruled.within who below) behind is.short
+    let behind = led_alone.behind who below apart in
+    let rest = hear_events (cluster.mails who) ++ Tick now (advice who).plan ∷ [] in
+    rw (answer_after self (cluster.waits who) (advice who).rows rest (cluster.replicas who) behind.follows) (elim (told who below apart) [
+      | inl all ↦ caught_up_mail self ballot prefix now (advice who).plan (cluster.mails who) (cluster.replicas who) (led_alone.within who below) behind (omega (arith, all))
+      | inr is ↦ learns_mail self ballot prefix leader now (advice who).plan (cluster.mails who) who cluster is (cluster.replicas who) is.there (led_alone.within who below) behind is.short
     ])
 
 -- one that has learned as much as the leader still has
-pub level_still : (members leader ballot prefix : ℕ) (now : ℤ) (advice : ℕ → Advice) (answers : ℕ → Option SchedRow) (calm : Calm) (who : ℕ) → IsRuled members leader ballot prefix calm → who < members → (who ≡ leader → ⊥) → prefix_of (calm.replicas who) ≡ prefix → prefix_of ((calm_round members now advice answers calm).replicas who) ≡ prefix
-level_still members leader ballot prefix now advice answers calm who ruled below apart all =
+pub caught_up_still : (members leader ballot prefix : ℕ) (now : ℤ) (advice : ℕ → Advice) (answers : ℕ → Option SchedRow) (cluster : Cluster) (who : ℕ) → IsLedAlone members leader ballot prefix cluster → who < members → (who ≡ leader → ⊥) → prefix_of (cluster.replicas who) ≡ prefix → prefix_of ((cluster_round members now advice answers cluster).replicas who) ≡ prefix
+caught_up_still members leader ballot prefix now advice answers cluster who led_alone below apart all =
     let self = identity_of members who in
-    let behind = ruled.behind who below apart in
-    let rest = hear_events (calm.mails who) ++ Tick now (advice who).plan ∷ [] in
-    rw (answer_after self (calm.waits who) (advice who).rows rest (calm.replicas who) behind.follows)
-    (level_mail self ballot prefix now (advice who).plan (calm.mails who) (calm.replicas who) (ruled.within who below) behind (omega (arith, all)))
+    let behind = led_alone.behind who below apart in
+    let rest = hear_events (cluster.mails who) ++ Tick now (advice who).plan ∷ [] in
+    rw (answer_after self (cluster.waits who) (advice who).rows rest (cluster.replicas who) behind.follows)
+    (caught_up_mail self ballot prefix now (advice who).plan (cluster.mails who) (cluster.replicas who) (led_alone.within who below) behind (omega (arith, all)))

@@ -1,13 +1,13 @@
 -- Why the proofs hold. Names in backquotes are files of this folder and lemmas in them.
 --
--- A leader comes to rest:
+-- A leader becomes idle:
 -- - What leaves a replica without a campaign names no ballot above its promise, and sends no entry and no launch
 --   table but of slots below its prefix (`SendLemmas`: `act_rises`, `letters_within`).
 -- - A replica that follows and hears such letters follows on, and learns no more than the leader has; a launch table
 --   that it takes, or puts in the place of entries, leaves its prefix at most there (`FollowerLemmas`:
 --   `behind_line`, `behind_round`).
 -- - A leader that hears them keeps its term, its launch table, its prefix and its base, so one leads alone after the
---   round (`LeaderLemmas`: `hold_line`; `RuledLemmas`: `ruled_next`).
+--   round (`LeaderLemmas`: `hold_line`; `LedAloneLemmas`: `led_alone_next`).
 -- - A base is at most its replica's prefix, and this at most the leader's, so no proposal of the leader is below a
 --   base: each follower votes, and says so (`FollowerLemmas`: `votes_line`; `MailLemmas`: `accepted_next`).
 -- - The leader counts each acceptance, and all are a majority: it learns the entry (`CountLemmas`: `goes_mail`,
@@ -62,8 +62,8 @@
 --   was sent for the first (`TellLemmas`: `answers_ask`, `copies_line`, `answers_all`, `told_next`).
 -- - Each entry that it is sent in order is learned if it is the next one, and a launch table after its prefix is
 --   taken (`LearnLemmas`: `learns_entry`, `takes_table`, `learns_letter`, `learned_next`).
--- - A leader that rests proposes nothing and calls nothing, so it is idle after the round; its base doesn't rise in
---   two rounds in a row, since its prefix stays (`IdleLemmas`: `idle_begins`, `idle_round`, `all_level`).
+-- - A leader that is idle proposes nothing and calls nothing, so it is idle after the round; its base doesn't rise in
+--   two rounds in a row, since its prefix stays (`IdleLemmas`: `idle_begins`, `idle_round`, `all_caught_up`).
 
 pub mod ActLemmas
 pub mod AnswerLemmas
@@ -93,9 +93,9 @@ pub mod OutcomeLemmas
 pub mod PromiseLemmas
 pub mod ReplyLemmas
 pub mod RoundLemmas
-pub mod RuledLemmas
+pub mod LedAloneLemmas
 pub mod SendLemmas
-pub mod SomeCalm
+pub mod SomeCluster
 pub mod SomeCampaign
 pub mod SomeIdle
 pub mod SomeYield

@@ -10,7 +10,7 @@ use Rattle.step_spec.specs.Message.{Message, Only}
 use Rattle.step_spec.specs.State.{Identity, State}
 use Rattle.step_spec.specs.Step.{Event, step}
 use Rattle.step_spec.proofs.Lists.{nothing_in}
-use Rattle.synchronous_rounds.specs.Calm.{ArePlanned, after_events}
+use Rattle.synchronous_rounds.specs.Cluster.{ArePlanned, after_events}
 use Rattle.due_set.proofs.Rising.{Contains-head as in_first, Contains-tail as in_rest, Contains-cases as cons_cases}
 use Rattle.step_spec.proofs.OutLemmas.{flat_has as flat_in}
 

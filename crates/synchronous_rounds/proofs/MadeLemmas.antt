@@ -13,8 +13,8 @@ use Rattle.step_spec.specs.Propose.{campaign, next_ballot}
 use Rattle.step_spec.specs.State.{Identity, State, prefix_of, promised_in}
 use Rattle.step_spec.specs.Step.{Campaign, IsLaunchTable, step}
 use Rattle.agreement.specs.Transition.{identity_of}
-use Rattle.synchronous_rounds.specs.Calm.{Calm, HeardLetter, letter_from}
-use Rattle.synchronous_rounds.specs.Ruled.{AreWithin}
+use Rattle.synchronous_rounds.specs.Cluster.{Cluster, HeardLetter, letter_from}
+use Rattle.synchronous_rounds.specs.LedAlone.{AreWithin}
 use Rattle.synchronous_rounds.proofs.CountLemmas.{few_alone}
 use Rattle.synchronous_rounds.specs.Again.{HasCampaignedAgain, IsBounded}
 use Rattle.synchronous_rounds.specs.Campaign.{HasCampaigned, IsCandidate, IsOneOf}
@@ -46,56 +46,56 @@ above_seen me state = let least = le-max_right state.kept.tried (round_of state.
 
 -- ---- the replicas then
 
-others_stay : (members candidate : ℕ) (calm : Calm) (who : ℕ) → (who ≡ candidate → ⊥) → (after_campaign members candidate calm).replicas who ≡ calm.replicas who
-others_stay members candidate calm who apart = rw (ne_eqb who candidate apart) refl
+others_stay : (members candidate : ℕ) (cluster : Cluster) (who : ℕ) → (who ≡ candidate → ⊥) → (after_campaign members candidate cluster).replicas who ≡ cluster.replicas who
+others_stay members candidate cluster who apart = rw (ne_eqb who candidate apart) refl
 
-candidate_stands : (members candidate : ℕ) (table : Table) (rows : List JobRow) (calm : Calm) → IsOneOf members candidate → IsLaunchTable table (calm.replicas candidate) rows → IsCandidate (own_votes (calm.replicas candidate)) (campaigned_at table rows candidate (calm.replicas candidate)) candidate ((after_campaign members candidate calm).replicas candidate)
-candidate_stands members candidate table rows calm one launch =
+candidate_stands : (members candidate : ℕ) (table : Table) (rows : List JobRow) (cluster : Cluster) → IsOneOf members candidate → IsLaunchTable table (cluster.replicas candidate) rows → IsCandidate (own_votes (cluster.replicas candidate)) (campaigned_at table rows candidate (cluster.replicas candidate)) candidate ((after_campaign members candidate cluster).replicas candidate)
+candidate_stands members candidate table rows cluster one launch =
     rw (eq-eqb candidate candidate refl)
-    (subst (λ acts. IsCandidate (own_votes (calm.replicas candidate)) (campaigned_at table rows candidate (calm.replicas candidate)) candidate (after_acts acts (calm.replicas candidate)))
-    (sym (acts_are (identity_of members candidate) (calm.replicas candidate) one.more (omega (arith, one.member, one.few))))
-    (stands_then table rows candidate (calm.replicas candidate) launch))
+    (subst (λ acts. IsCandidate (own_votes (cluster.replicas candidate)) (campaigned_at table rows candidate (cluster.replicas candidate)) candidate (after_acts acts (cluster.replicas candidate)))
+    (sym (acts_are (identity_of members candidate) (cluster.replicas candidate) one.more (omega (arith, one.member, one.few))))
+    (stands_then table rows candidate (cluster.replicas candidate) launch))
 
-mail_of_other : (members candidate : ℕ) (calm : Calm) (who : ℕ) → IsOneOf members candidate → (who ≡ candidate → ⊥) → (after_campaign members candidate calm).mails who ≡ calm.mails who ++ record { from = candidate; messages = Prepare (next_ballot candidate (calm.replicas candidate)) (prefix_of (calm.replicas candidate)) ∷ [] } ∷ []
-mail_of_other members candidate calm who one apart =
-    ap (λ acts. calm.mails who ++ letter_from candidate (sent_to candidate who acts)) (acts_are (identity_of members candidate) (calm.replicas candidate) one.more (omega (arith, one.member, one.few)))
-    ∙ ap (λ messages. calm.mails who ++ letter_from candidate messages) (asks_other candidate who (calm.replicas candidate) apart)
+mail_of_other : (members candidate : ℕ) (cluster : Cluster) (who : ℕ) → IsOneOf members candidate → (who ≡ candidate → ⊥) → (after_campaign members candidate cluster).mails who ≡ cluster.mails who ++ record { from = candidate; messages = Prepare (next_ballot candidate (cluster.replicas candidate)) (prefix_of (cluster.replicas candidate)) ∷ [] } ∷ []
+mail_of_other members candidate cluster who one apart =
+    ap (λ acts. cluster.mails who ++ letter_from candidate (sent_to candidate who acts)) (acts_are (identity_of members candidate) (cluster.replicas candidate) one.more (omega (arith, one.member, one.few)))
+    ∙ ap (λ messages. cluster.mails who ++ letter_from candidate messages) (asks_other candidate who (cluster.replicas candidate) apart)
 
-mail_of_itself : (members candidate : ℕ) (calm : Calm) → IsOneOf members candidate → (after_campaign members candidate calm).mails candidate ≡ calm.mails candidate
-mail_of_itself members candidate calm one =
-    ap (λ acts. calm.mails candidate ++ letter_from candidate (sent_to candidate candidate acts)) (acts_are (identity_of members candidate) (calm.replicas candidate) one.more (omega (arith, one.member, one.few)))
-    ∙ (ap (λ messages. calm.mails candidate ++ letter_from candidate messages) (asks_itself candidate (calm.replicas candidate)) ∙ append-nil (calm.mails candidate))
+mail_of_itself : (members candidate : ℕ) (cluster : Cluster) → IsOneOf members candidate → (after_campaign members candidate cluster).mails candidate ≡ cluster.mails candidate
+mail_of_itself members candidate cluster one =
+    ap (λ acts. cluster.mails candidate ++ letter_from candidate (sent_to candidate candidate acts)) (acts_are (identity_of members candidate) (cluster.replicas candidate) one.more (omega (arith, one.member, one.few)))
+    ∙ (ap (λ messages. cluster.mails candidate ++ letter_from candidate messages) (asks_itself candidate (cluster.replicas candidate)) ∙ append-nil (cluster.mails candidate))
 
 -- ---- the two campaigns
 
-pub first_made : (members candidate : ℕ) (table : Table) (rows : List JobRow) (calm : Calm) → IsOneOf members candidate → calm.waits candidate ≡ None → ((who : ℕ) → who < members → calm.mails who ≡ []) → ((who : ℕ) → who < members → prefix_of (calm.replicas who) ≤ prefix_of (calm.replicas candidate)) → ((who : ℕ) → who < members → (who ≡ candidate → ⊥) → promised_in (calm.replicas who).kept ≡ next_ballot candidate (calm.replicas candidate) → ⊥) → IsLaunchTable table (calm.replicas candidate) rows → HasCampaigned members candidate (own_votes (calm.replicas candidate)) (campaigned_at table rows candidate (calm.replicas candidate)) (after_campaign members candidate calm)
-first_made members candidate table rows calm one alone empty short fresh launch = record {
+pub first_made : (members candidate : ℕ) (table : Table) (rows : List JobRow) (cluster : Cluster) → IsOneOf members candidate → cluster.waits candidate ≡ None → ((who : ℕ) → who < members → cluster.mails who ≡ []) → ((who : ℕ) → who < members → prefix_of (cluster.replicas who) ≤ prefix_of (cluster.replicas candidate)) → ((who : ℕ) → who < members → (who ≡ candidate → ⊥) → promised_in (cluster.replicas who).kept ≡ next_ballot candidate (cluster.replicas candidate) → ⊥) → IsLaunchTable table (cluster.replicas candidate) rows → HasCampaigned members candidate (own_votes (cluster.replicas candidate)) (campaigned_at table rows candidate (cluster.replicas candidate)) (after_campaign members candidate cluster)
+first_made members candidate table rows cluster one alone empty short fresh launch = record {
   one = one;
   stands = stands;
   alone = alone;
-  unread = mail_of_itself members candidate calm one ∙ empty candidate one.member;
-  asked = λ who below apart. mail_of_other members candidate calm who one apart ∙ ap (λ mail. mail ++ letter) (empty who below);
+  unread = mail_of_itself members candidate cluster one ∙ empty candidate one.member;
+  asked = λ who below apart. mail_of_other members candidate cluster who one apart ∙ ap (λ mail. mail ++ letter) (empty who below);
   short = λ who below. elim (cases_eq who candidate) [
-    | inl same ↦ subst (λ q. prefix_of ((after_campaign members candidate calm).replicas q) ≤ prefix_of (calm.replicas candidate)) (sym same) (omega (arith, stands.learned))
-    | inr apart ↦ subst (λ s. prefix_of s ≤ prefix_of (calm.replicas candidate)) (sym (others_stay members candidate calm who apart)) (short who below)
+    | inl same ↦ subst (λ q. prefix_of ((after_campaign members candidate cluster).replicas q) ≤ prefix_of (cluster.replicas candidate)) (sym same) (omega (arith, stands.learned))
+    | inr apart ↦ subst (λ s. prefix_of s ≤ prefix_of (cluster.replicas candidate)) (sym (others_stay members candidate cluster who apart)) (short who below)
   ];
-  fresh = λ who below apart. subst (λ s. promised_in s.kept ≡ next_ballot candidate (calm.replicas candidate) → ⊥) (sym (others_stay members candidate calm who apart)) (fresh who below apart);
+  fresh = λ who below apart. subst (λ s. promised_in s.kept ≡ next_ballot candidate (cluster.replicas candidate) → ⊥) (sym (others_stay members candidate cluster who apart)) (fresh who below apart);
 }
   where
     letter : List HeardLetter
-    letter = record { from = candidate; messages = Prepare (next_ballot candidate (calm.replicas candidate)) (prefix_of (calm.replicas candidate)) ∷ [] } ∷ []
+    letter = record { from = candidate; messages = Prepare (next_ballot candidate (cluster.replicas candidate)) (prefix_of (cluster.replicas candidate)) ∷ [] } ∷ []
 
-    stands : IsCandidate (own_votes (calm.replicas candidate)) (campaigned_at table rows candidate (calm.replicas candidate)) candidate ((after_campaign members candidate calm).replicas candidate)
-    stands = candidate_stands members candidate table rows calm one launch
+    stands : IsCandidate (own_votes (cluster.replicas candidate)) (campaigned_at table rows candidate (cluster.replicas candidate)) candidate ((after_campaign members candidate cluster).replicas candidate)
+    stands = candidate_stands members candidate table rows cluster one launch
 
-pub again_made : (members candidate top : ℕ) (table : Table) (rows : List JobRow) (calm : Calm) → IsOneOf members candidate → calm.waits candidate ≡ None → IsBounded members top (prefix_of (calm.replicas candidate)) calm → top ≤ (calm.replicas candidate).seen → IsLaunchTable table (calm.replicas candidate) rows → HasCampaignedAgain members candidate top (own_votes (calm.replicas candidate)) (campaigned_at table rows candidate (calm.replicas candidate)) (after_campaign members candidate calm)
-again_made members candidate top table rows calm one alone bounded seen launch = record {
+pub again_made : (members candidate top : ℕ) (table : Table) (rows : List JobRow) (cluster : Cluster) → IsOneOf members candidate → cluster.waits candidate ≡ None → IsBounded members top (prefix_of (cluster.replicas candidate)) cluster → top ≤ (cluster.replicas candidate).seen → IsLaunchTable table (cluster.replicas candidate) rows → HasCampaignedAgain members candidate top (own_votes (cluster.replicas candidate)) (campaigned_at table rows candidate (cluster.replicas candidate)) (after_campaign members candidate cluster)
+again_made members candidate top table rows cluster one alone bounded seen launch = record {
   one = one;
-  above = let high = above_seen candidate (calm.replicas candidate) in omega (arith, high, seen);
-  stands = candidate_stands members candidate table rows calm one launch;
+  above = let high = above_seen candidate (cluster.replicas candidate) in omega (arith, high, seen);
+  stands = candidate_stands members candidate table rows cluster one launch;
   alone = alone;
-  unheard = subst (λ mail. AreWithin top (prefix_of (calm.replicas candidate)) mail) (sym (mail_of_itself members candidate calm one)) (bounded.within candidate one.member);
-  asked = λ who below apart. record { front = calm.mails who; is = mail_of_other members candidate calm who one apart; within = bounded.within who below };
-  low = λ who below apart. subst (λ s. promised_in s.kept ≤ top) (sym (others_stay members candidate calm who apart)) (bounded.low who below);
-  short = λ who below apart. subst (λ s. prefix_of s ≤ prefix_of (calm.replicas candidate)) (sym (others_stay members candidate calm who apart)) (bounded.short who below);
+  unheard = subst (λ mail. AreWithin top (prefix_of (cluster.replicas candidate)) mail) (sym (mail_of_itself members candidate cluster one)) (bounded.within candidate one.member);
+  asked = λ who below apart. record { front = cluster.mails who; is = mail_of_other members candidate cluster who one apart; within = bounded.within who below };
+  low = λ who below apart. subst (λ s. promised_in s.kept ≤ top) (sym (others_stay members candidate cluster who apart)) (bounded.low who below);
+  short = λ who below apart. subst (λ s. prefix_of s ≤ prefix_of (cluster.replicas candidate)) (sym (others_stay members candidate cluster who apart)) (bounded.short who below);
 }

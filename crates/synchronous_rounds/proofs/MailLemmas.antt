@@ -13,9 +13,9 @@ use Rattle.step_spec.specs.State.{Identity, State}
 use Rattle.step_spec.specs.Step.{Event, Tick, Answer, Plan, step}
 use Rattle.step_spec.proofs.Lists.{nothing_in}
 use Rattle.agreement.specs.Transition.{identity_of}
-use Rattle.synchronous_rounds.specs.Calm.{Advice, Calm, HeardLetter, after_events, answer_events, calm_round, events_at, hear_events, letter_from, letters_to}
+use Rattle.synchronous_rounds.specs.Cluster.{Advice, Cluster, HeardLetter, after_events, answer_events, cluster_round, events_at, hear_events, letter_from, letters_to}
 use Rattle.synchronous_rounds.specs.Flights.{IsAccepted, IsAsked}
-use Rattle.synchronous_rounds.specs.Ruled.{AreWithin, IsBehind, IsRuled, Occurs}
+use Rattle.synchronous_rounds.specs.LedAlone.{AreWithin, IsBehind, IsLedAlone, Occurs}
 use Rattle.synchronous_rounds.proofs.FollowerLemmas.{behind_all, behind_answer, votes_all}
 use Rattle.synchronous_rounds.proofs.Lists.{range_in, sent_in}
 use Rattle.due_set.proofs.Rising.{Contains-head as in_first, Contains-cases as cons_cases}
@@ -56,10 +56,10 @@ occurs_after self q xs ys state message occurs =
     (occurs_right (letters_to self q xs state) (letters_to self q ys (after_events self xs state)) self.me message occurs)
 
 -- what one replica says is in the mails of the next round
-pub occurs_next : (members : ℕ) (now : ℤ) (advice : ℕ → Advice) (answers : ℕ → Option SchedRow) (calm : Calm) (from to : ℕ) (message : Message) → from < members → Occurs (letters_to (identity_of members from) to (events_at now advice calm from) (calm.replicas from)) from message → Occurs ((calm_round members now advice answers calm).mails to) from message
-occurs_next members now advice answers calm from to message below occurs = record {
+pub occurs_next : (members : ℕ) (now : ℤ) (advice : ℕ → Advice) (answers : ℕ → Option SchedRow) (cluster : Cluster) (from to : ℕ) (message : Message) → from < members → Occurs (letters_to (identity_of members from) to (events_at now advice cluster from) (cluster.replicas from)) from message → Occurs ((cluster_round members now advice answers cluster).mails to) from message
+occurs_next members now advice answers cluster from to message below occurs = record {
   letter = occurs.letter;
-  there = flat_in (λ q. letters_to (identity_of members q) to (events_at now advice calm q) (calm.replicas q)) (range_with_len 0 members) from occurs.letter (range_in 0 members from (omega arith) (omega (arith, below))) occurs.there;
+  there = flat_in (λ q. letters_to (identity_of members q) to (events_at now advice cluster q) (cluster.replicas q)) (range_with_len 0 members) from occurs.letter (range_in 0 members from (omega arith) (omega (arith, below))) occurs.there;
   is_from = occurs.is_from;
   has = occurs.has;
 }
@@ -91,7 +91,7 @@ votes_round self vote c now plan (Some row) rows mail state within occurs behind
     (votes_mail self vote c now plan mail _ within occurs (behind_answer self vote.ballot vote.slot row.name.job row.name.at row rows state behind))
 
 -- once all were asked, all have accepted
-pub accepted_next : (members c : ℕ) (now : ℤ) (advice : ℕ → Advice) (answers : ℕ → Option SchedRow) (vote : Vote) (calm : Calm) → IsRuled members c vote.ballot vote.slot calm → IsAsked members c vote calm → IsAccepted members c vote.ballot vote.slot (calm_round members now advice answers calm)
-accepted_next members c now advice answers vote calm ruled asked who below other =
-    occurs_next members now advice answers calm who c (Accepted vote.ballot vote.slot) below
-    (votes_round (identity_of members who) vote c now (advice who).plan (calm.waits who) (advice who).rows (calm.mails who) (calm.replicas who) (ruled.within who below) (asked who below other) (ruled.behind who below other))
+pub accepted_next : (members c : ℕ) (now : ℤ) (advice : ℕ → Advice) (answers : ℕ → Option SchedRow) (vote : Vote) (cluster : Cluster) → IsLedAlone members c vote.ballot vote.slot cluster → IsAsked members c vote cluster → IsAccepted members c vote.ballot vote.slot (cluster_round members now advice answers cluster)
+accepted_next members c now advice answers vote cluster led_alone asked who below other =
+    occurs_next members now advice answers cluster who c (Accepted vote.ballot vote.slot) below
+    (votes_round (identity_of members who) vote c now (advice who).plan (cluster.waits who) (advice who).rows (cluster.mails who) (cluster.replicas who) (led_alone.within who below) (asked who below other) (led_alone.behind who below other))

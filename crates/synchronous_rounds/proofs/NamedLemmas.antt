@@ -16,12 +16,12 @@ use Rattle.step_spec.specs.Message.{Message, Prepare, Promise, Accept, Accepted,
 use Rattle.step_spec.specs.State.{Identity, State, prefix_of, promised_in}
 use Rattle.step_spec.specs.Step.{Event, Tick, step}
 use Rattle.agreement.specs.Transition.{identity_of}
-use Rattle.synchronous_rounds.specs.Calm.{Advice, Calm, HeardLetter, IsAdvised, after_events, answer_events, before_tick, calm_round, events_at, hear_events, letters_to}
-use Rattle.synchronous_rounds.specs.Ruled.{AreWithin, StaysWithin, TellsBelow}
+use Rattle.synchronous_rounds.specs.Cluster.{Advice, Cluster, HeardLetter, IsAdvised, after_events, answer_events, before_tick, cluster_round, events_at, hear_events, letters_to}
+use Rattle.synchronous_rounds.specs.LedAlone.{AreWithin, StaysWithin, TellsBelow}
 use Rattle.synchronous_rounds.proofs.ActLemmas.{observed}
 use Rattle.synchronous_rounds.proofs.Lists.{acts_append, all_flat, planned_behind, range_below}
 use Rattle.synchronous_rounds.proofs.RoundLemmas.{round_after, ticked}
-use Rattle.synchronous_rounds.proofs.RuledLemmas.{plain_round}
+use Rattle.synchronous_rounds.proofs.LedAloneLemmas.{plain_round}
 use Rattle.synchronous_rounds.proofs.SendLemmas.{letters_within}
 use Rattle.synchronous_rounds.specs.Named.{AreNamed, IsNamedUpTo, NamesUpTo}
 use Rattle.synchronous_rounds.proofs.BoundLemmas.{IsNoAcceptance, short_line}
@@ -101,23 +101,23 @@ low_answer : (self : Identity) (top : ℕ) (waits : Option SchedRow) (rows : Lis
 low_answer self top None rows state more small sound low = low
 low_answer self top (Some row) rows state more small sound low = let steady = answers_steady self row rows state more small sound in omega (arith, steady.promised, low)
 
-low_round : (members top : ℕ) (table : Table) (now : ℤ) (advice : ℕ → Advice) (answers : ℕ → Option SchedRow) (calm : Calm) (who : ℕ) → who < members → members ≤ 7 → 2 ≤ members → IsAdvised members table now advice calm → IsNamedUpTo members top calm → promised_in ((calm_round members now advice answers calm).replicas who).kept ≤ top
-low_round members top table now advice answers calm who below few more advised named =
+low_round : (members top : ℕ) (table : Table) (now : ℤ) (advice : ℕ → Advice) (answers : ℕ → Option SchedRow) (cluster : Cluster) (who : ℕ) → who < members → members ≤ 7 → 2 ≤ members → IsAdvised members table now advice cluster → IsNamedUpTo members top cluster → promised_in ((cluster_round members now advice answers cluster).replicas who).kept ≤ top
+low_round members top table now advice answers cluster who below few more advised named =
     let self = identity_of members who in
     let small : who < 8 = omega (arith, below, few) in
-    let front = answer_events (calm.waits who) (advice who).rows in
-    let mail = hear_events (calm.mails who) in
+    let front = answer_events (cluster.waits who) (advice who).rows in
+    let mail = hear_events (cluster.mails who) in
     let tick : Event = Tick now (advice who).plan in
-    let state = calm.replicas who in
+    let state = cluster.replicas who in
     let middle = after_events self front state in
-    let before = before_tick members advice calm who in
+    let before = before_tick members advice cluster who in
     let planned = advised.planned who below in
     let rest = planned_behind self table front (mail ++ tick ∷ []) state planned in
     let fine = sound_events self table front state small (advised.coherent who below) (planned_front self table front (mail ++ tick ∷ []) state planned) in
-    let sound : IsCoherent self before = subst (λ s. IsCoherent self s) (sym (ticked members advice calm who)) (sound_events self table mail middle small fine (planned_front self table mail (tick ∷ []) middle rest)) in
-    let heard : promised_in before.kept ≤ top = subst (λ s. promised_in s.kept ≤ top) (sym (ticked members advice calm who)) (low_mail self top (calm.mails who) middle (named.named who below) (low_answer self top (calm.waits who) (advice who).rows state more small (advised.coherent who below) (named.low who below))) in
+    let sound : IsCoherent self before = subst (λ s. IsCoherent self s) (sym (ticked members advice cluster who)) (sound_events self table mail middle small fine (planned_front self table mail (tick ∷ []) middle rest)) in
+    let heard : promised_in before.kept ≤ top = subst (λ s. promised_in s.kept ≤ top) (sym (ticked members advice cluster who)) (low_mail self top (cluster.mails who) middle (named.named who below) (low_answer self top (cluster.waits who) (advice who).rows state more small (advised.coherent who below) (named.low who below))) in
     let steady = tick_steady self now (advice who).plan before more small sound in
-    subst (λ s. promised_in s.kept ≤ top) (sym (round_after members now advice answers calm who)) (omega (arith, steady.promised, heard))
+    subst (λ s. promised_in s.kept ≤ top) (sym (round_after members now advice answers cluster who)) (omega (arith, steady.promised, heard))
 
 names_of : (top p : ℕ) (messages : List Message) → AllByRecursion (StaysWithin top p) messages → AllByRecursion (NamesUpTo top) messages
 names_of top p [] within = tt
@@ -127,24 +127,24 @@ named_of : (top p : ℕ) (mail : List HeardLetter) → AreWithin top p mail → 
 named_of top p [] within = tt
 named_of top p (letter ∷ mail) within = (names_of top p letter.messages within.0, named_of top p mail within.1)
 
-pub stands_still : (members top : ℕ) (table : Table) (now : ℤ) (advice : ℕ → Advice) (answers : ℕ → Option SchedRow) (calm : Calm) → members ≤ 7 → 2 ≤ members → IsAdvised members table now advice calm → IsNamedUpTo members top calm → IsNamedUpTo members top (calm_round members now advice answers calm)
-stands_still members top table now advice answers calm few more advised named = record {
+pub stands_still : (members top : ℕ) (table : Table) (now : ℤ) (advice : ℕ → Advice) (answers : ℕ → Option SchedRow) (cluster : Cluster) → members ≤ 7 → 2 ≤ members → IsAdvised members table now advice cluster → IsNamedUpTo members top cluster → IsNamedUpTo members top (cluster_round members now advice answers cluster)
+stands_still members top table now advice answers cluster few more advised named = record {
   low = low;
   named = λ to below. all_flat (λ letter. AllByRecursion (NamesUpTo top) letter.messages) (letters to) (range_with_len 0 members) (λ other has. each to other (range_below 0 members other has));
 }
   where
-    next : Calm
-    next = calm_round members now advice answers calm
+    next : Cluster
+    next = cluster_round members now advice answers cluster
 
     low : (who : ℕ) → who < members → promised_in (next.replicas who).kept ≤ top
-    low who below = low_round members top table now advice answers calm who below few more advised named
+    low who below = low_round members top table now advice answers cluster who below few more advised named
 
     letters : ℕ → ℕ → List HeardLetter
-    letters to other = letters_to (identity_of members other) to (events_at now advice calm other) (calm.replicas other)
+    letters to other = letters_to (identity_of members other) to (events_at now advice cluster other) (cluster.replicas other)
 
     each : (to other : ℕ) → other < 0 + members → AreNamed top (letters to other)
     each to other below =
         let mine : other < members = omega (arith, below) in
         let p = prefix_of (next.replicas other) in
-        let are = letters_within top p (identity_of members other) table to (events_at now advice calm other) (calm.replicas other) (omega (arith, mine, few)) (plain_round now (advice other) (calm.waits other) (calm.mails other)) (advised.coherent other mine) (advised.planned other mine) in
+        let are = letters_within top p (identity_of members other) table to (events_at now advice cluster other) (cluster.replicas other) (omega (arith, mine, few)) (plain_round now (advice other) (cluster.waits other) (cluster.mails other)) (advised.coherent other mine) (advised.planned other mine) in
         named_of top p (letters to other) (are.within (low other mine) (omega arith))

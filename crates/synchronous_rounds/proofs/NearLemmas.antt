@@ -1,4 +1,4 @@
--- When a leader is nearer to rest.
+-- When a leader is nearer to being idle.
 use Rattle.std.proofs.Common.{◌≡◌, ℕ, ◌+◌, ◌-◌, ◌<◌, ◌≤◌, List, Option, None, Some, ℤ, refl, sym, ap, inl, inr, ◌⊎◌, arith, subst}
 use Rattle.std.proofs.lemmas.Bool.{le-leb}
 use Rattle.paxos_base.specs.declared.entry.Vote.{Vote}
@@ -7,12 +7,12 @@ use Rattle.due_set.specs.Table.{IsSound}
 use Rattle.term_core.specs.declared.flight.Flight.{Flight}
 use Rattle.term_core.specs.declared.term.Term.TheVariants.{Leader}
 use Rattle.step_spec.specs.State.{State, prefix_of}
-use Rattle.synchronous_rounds.specs.Begins.{Begins, calls, proposes, rebases, rests, HasRested}
-use Rattle.synchronous_rounds.specs.Calm.{Advice, Calm, calls_at}
+use Rattle.synchronous_rounds.specs.Begins.{Begins, calls, proposes, rebases, rests, HasIdled}
+use Rattle.synchronous_rounds.specs.Cluster.{Advice, Cluster, calls_at}
 use Rattle.synchronous_rounds.specs.Flights.{IsNeeded, Proposal, learned_by, with_base}
 use Rattle.synchronous_rounds.specs.Measure.{IsNearer, wait_of, work}
 use Rattle.synchronous_rounds.specs.Rounds.{IsAnswerTo, IsFreeNow, reckoned}
-use Rattle.synchronous_rounds.specs.Ruled.{IsLeading, Progress}
+use Rattle.synchronous_rounds.specs.LedAlone.{IsLeading, Progress}
 use Rattle.synchronous_rounds.proofs.TickLemmas.{LeadsOn, Waited, due_by, due_is, none_due}
 use Rattle.synchronous_rounds.proofs.WorkLemmas.{learned_work, one_due, short_wait}
 
@@ -41,11 +41,11 @@ waits_nearer proposal held waits next_waits state next old least waited =
     record { launch = waited.proposes.leading.launch; nearer = omega (arith, a, b, c, d, e, least, waited.proposes.flies.waited, waited.sooner) }
 
 -- after what it begins it leads on
-pub begun_leads : (members leader : ℕ) (best : List Vote) (at : Progress) (now : ℤ) (advice : ℕ → Advice) (calm next : Calm) → Begins members leader best at now advice calm next → LeadsOn best at (next.replicas leader)
-begun_leads members leader best at now advice calm next (proposes it) = record { flight = Some it.flight; base = at.base; leading = it.proposes.leading }
-begun_leads members leader best at now advice calm next (rebases it) = record { flight = None; base = at.prefix; leading = it.leading }
-begun_leads members leader best at now advice calm next (calls it) = record { flight = None; base = at.base; leading = it.leading }
-begun_leads members leader best at now advice calm next (rests it) = record { flight = None; base = at.base; leading = it.leading }
+pub begun_leads : (members leader : ℕ) (best : List Vote) (at : Progress) (now : ℤ) (advice : ℕ → Advice) (cluster next : Cluster) → Begins members leader best at now advice cluster next → LeadsOn best at (next.replicas leader)
+begun_leads members leader best at now advice cluster next (proposes it) = record { flight = Some it.flight; base = at.base; leading = it.proposes.leading }
+begun_leads members leader best at now advice cluster next (rebases it) = record { flight = None; base = at.prefix; leading = it.leading }
+begun_leads members leader best at now advice cluster next (calls it) = record { flight = None; base = at.base; leading = it.leading }
+begun_leads members leader best at now advice cluster next (rests it) = record { flight = None; base = at.base; leading = it.leading }
 
 pub learned_nearer : (proposal : Proposal) (waits next_waits : Option SchedRow) (state next : State) → IsSound proposal.at.table → IsNeeded proposal → prefix_of state ≡ proposal.at.prefix → LeadsOn proposal.best (learned_by proposal) next → IsNearer proposal.at.table proposal.best (record { rows = proposal.at.rows; waits = waits; state = state }) (record { rows = proposal.later; waits = next_waits; state = next })
 learned_nearer proposal waits next_waits state next sound needed here on =
@@ -63,18 +63,18 @@ learned_nearer proposal waits next_waits state next sound needed here on =
 due_is_one : (at : Progress) → at.base + 64 ≤ at.prefix → due_by at ≡ 1
 due_is_one at due = rw (le-leb (at.base + 64) at.prefix due) refl
 
-pub begun_nearer : (members leader : ℕ) (best : List Vote) (at : Progress) (now : ℤ) (advice : ℕ → Advice) (calm next : Calm) → IsFreeNow members leader best at calm → IsAnswerTo (calls_at members now advice calm leader) (next.waits leader) → Begins members leader best at now advice calm next → IsNearer at.table best (reckoned leader at.rows calm) (reckoned leader at.rows next) ⊎ HasRested members leader best at now advice calm next
-begun_nearer members leader best at now advice calm next free answered begins = go begins
+pub begun_nearer : (members leader : ℕ) (best : List Vote) (at : Progress) (now : ℤ) (advice : ℕ → Advice) (cluster next : Cluster) → IsFreeNow members leader best at cluster → IsAnswerTo (calls_at members now advice cluster leader) (next.waits leader) → Begins members leader best at now advice cluster next → IsNearer at.table best (reckoned leader at.rows cluster) (reckoned leader at.rows next) ⊎ HasIdled members leader best at now advice cluster next
+begun_nearer members leader best at now advice cluster next free answered begins = go begins
   where
-    before : (more : ℕ) → more < 5 + due_by at → more < wait_of (calm.waits leader) (Leader at.ballot best None) + due_by at
+    before : (more : ℕ) → more < 5 + due_by at → more < wait_of (cluster.waits leader) (Leader at.ballot best None) + due_by at
     before more less = subst (λ waits. more < wait_of waits (Leader at.ballot best None) + due_by at) (sym free.alone) less
 
-    near : (base : ℕ) (flight : Option Flight) → IsLeading best flight (with_base base at) (next.replicas leader) → wait_of (next.waits leader) (Leader at.ballot best flight) + due_by (with_base base at) < 5 + due_by at → IsNearer at.table best (reckoned leader at.rows calm) (reckoned leader at.rows next)
+    near : (base : ℕ) (flight : Option Flight) → IsLeading best flight (with_base base at) (next.replicas leader) → wait_of (next.waits leader) (Leader at.ballot best flight) + due_by (with_base base at) < 5 + due_by at → IsNearer at.table best (reckoned leader at.rows cluster) (reckoned leader at.rows next)
     near base flight leading less =
-        sooner best at base None flight (calm.waits leader) (next.waits leader) (calm.replicas leader) (next.replicas leader) free.free.leading leading
+        sooner best at base None flight (cluster.waits leader) (next.waits leader) (cluster.replicas leader) (next.replicas leader) free.free.leading leading
         (before (wait_of (next.waits leader) (Leader at.ballot best flight) + due_by (with_base base at)) less)
 
-    go : Begins members leader best at now advice calm next → IsNearer at.table best (reckoned leader at.rows calm) (reckoned leader at.rows next) ⊎ HasRested members leader best at now advice calm next
+    go : Begins members leader best at now advice cluster next → IsNearer at.table best (reckoned leader at.rows cluster) (reckoned leader at.rows next) ⊎ HasIdled members leader best at now advice cluster next
     go (proposes it) = inl (near at.base (Some it.flight) it.proposes.leading (omega (arith, it.proposes.flies.waited)))
     go (rebases it) =
         let one = due_is_one at it.due in

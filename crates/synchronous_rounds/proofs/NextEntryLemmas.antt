@@ -19,8 +19,8 @@ use Rattle.step_spec.specs.Message.{Message, Prepare, Promise, Accept, Accepted,
 use Rattle.step_spec.specs.State.{Identity, State, prefix_of}
 use Rattle.step_spec.specs.Step.{step}
 use Rattle.step_spec.proofs.Lists.{nothing_in}
-use Rattle.synchronous_rounds.specs.Calm.{HeardLetter, after_events, hear_events}
-use Rattle.synchronous_rounds.specs.Ruled.{AreFrom, AreWithin, IsHolding, Occurs, StaysWithin}
+use Rattle.synchronous_rounds.specs.Cluster.{HeardLetter, after_events, hear_events}
+use Rattle.synchronous_rounds.specs.LedAlone.{AreFrom, AreWithin, IsHolding, Occurs, StaysWithin}
 use Rattle.synchronous_rounds.proofs.ActLemmas.{observed, rebased_learned, rebased_prefix}
 use Rattle.synchronous_rounds.proofs.BeginLemmas.{decides}
 use Rattle.synchronous_rounds.proofs.LeaderLemmas.{leading_observed}

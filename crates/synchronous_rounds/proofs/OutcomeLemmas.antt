@@ -21,10 +21,10 @@ use Rattle.step_spec.specs.Propose.{is_long, is_open, propose, tick, tick_of, wa
 use Rattle.step_spec.specs.State.{Identity, State, prefix_of}
 use Rattle.step_spec.specs.Step.{IsLaunchTable, Plan, step}
 use Rattle.agreement.specs.Transition.{identity_of}
-use Rattle.synchronous_rounds.specs.Begins.{Begins, calls, proposes, rebases, rests, HasAskedForCall, HasProposed, HasRebased, HasRested, proposal_of}
-use Rattle.synchronous_rounds.specs.Calm.{Advice, Calm, IsAdvised, before_tick, calm_round, letter_from}
+use Rattle.synchronous_rounds.specs.Begins.{Begins, calls, proposes, rebases, rests, HasAskedForCall, HasProposed, HasRebased, HasIdled, proposal_of}
+use Rattle.synchronous_rounds.specs.Cluster.{Advice, Cluster, IsAdvised, before_tick, cluster_round, letter_from}
 use Rattle.synchronous_rounds.specs.Flights.{IsNeeded, Proposes, with_base}
-use Rattle.synchronous_rounds.specs.Ruled.{IsLeading, Occurs, Progress}
+use Rattle.synchronous_rounds.specs.LedAlone.{IsLeading, Occurs, Progress}
 use Rattle.synchronous_rounds.proofs.BeginLemmas.{Begun, begins_entry, calls_for, says_lead, says_to_all, asks_votes, next_entry, proposes_it, proposing, tick_begins}
 use Rattle.synchronous_rounds.proofs.CountLemmas.{few_alone}
 use Rattle.synchronous_rounds.proofs.MailLemmas.{occurs_letter}
@@ -82,9 +82,9 @@ asks_in self at entry acts who is apart =
 
 -- ---- the tick of a round
 
-pub tick_outcome : (members leader : ℕ) (best : List Vote) (at : Progress) (now : ℤ) (advice : ℕ → Advice) (answers : ℕ → Option SchedRow) (calm : Calm) → leader < members → members ≤ 7 → 2 ≤ members → IsSound at.table → IsAdvised members at.table now advice calm → IsLeading best None at (before_tick members advice calm leader) → Begins members leader best at now advice calm (calm_round members now advice answers calm)
+pub tick_outcome : (members leader : ℕ) (best : List Vote) (at : Progress) (now : ℤ) (advice : ℕ → Advice) (answers : ℕ → Option SchedRow) (cluster : Cluster) → leader < members → members ≤ 7 → 2 ≤ members → IsSound at.table → IsAdvised members at.table now advice cluster → IsLeading best None at (before_tick members advice cluster leader) → Begins members leader best at now advice cluster (cluster_round members now advice answers cluster)
 unfolding step
-tick_outcome members leader best at now advice answers calm member few more sound advised leading =
+tick_outcome members leader best at now advice answers cluster member few more sound advised leading =
     elim (cases_Bool (is_long state)) [
       | inl long ↦ rebases (rebased long (long_tick self now plan.rows plan.intent state long))
       | inr short ↦ goes (short_tick self now plan.rows plan.intent state short) (tick_begins self at best sound now plan.intent state asked leading)
@@ -97,10 +97,10 @@ tick_outcome members leader best at now advice answers calm member few more soun
     plan = (advice leader).plan
 
     state : State
-    state = before_tick members advice calm leader
+    state = before_tick members advice cluster leader
 
-    next : Calm
-    next = calm_round members now advice answers calm
+    next : Cluster
+    next = cluster_round members now advice answers cluster
 
     small : leader < 8
     small = omega (arith, member, few)
@@ -109,32 +109,32 @@ tick_outcome members leader best at now advice answers calm member few more soun
     acts = tick self now plan.rows plan.intent state
 
     planned : IsLaunchTable at.table state plan.rows × IsIntent at.table plan.rows now plan.intent
-    planned = round_planned members at.table now advice calm leader member advised
+    planned = round_planned members at.table now advice cluster leader member advised
 
     asked : IsIntent at.table at.rows now plan.intent
     asked = subst (λ rows. IsIntent at.table rows now plan.intent) (AppliesAll-same at.table state.kept.rows state.learned plan.rows at.rows planned.0 leading.launch) planned.1
 
     after : next.replicas leader ≡ after_acts acts state
-    after = round_after members now advice answers calm leader
+    after = round_after members now advice answers cluster leader
 
-    rebased : is_long state ≡ true → acts ≡ Rebase (prefix_of state) plan.rows ∷ [] → HasRebased members leader best at now advice calm next
+    rebased : is_long state ≡ true → acts ≡ Rebase (prefix_of state) plan.rows ∷ [] → HasRebased members leader best at now advice cluster next
     rebased long is = record {
       due = leb-true (at.base + 64) at.prefix (sym (long_is (Leader at.ballot best None) at state leading) ∙ long);
       leading = subst (λ s. IsLeading best None (with_base at.prefix at) s) (sym (after ∙ ap (λ some. after_acts some state) is)) (holds_rebased (Leader at.ballot best None) at plan.rows state leading planned.0 refl);
       uncalled = ap calls_of is ∙ no_call_rebase (prefix_of state) plan.rows;
     }
 
-    proposed : (entry : Entry) → IsNeeded (proposal_of self best at (next_entry at sound entry) 0) → acts ≡ proposing self at entry → HasProposed members leader best at now advice calm next
+    proposed : (entry : Entry) → IsNeeded (proposal_of self best at (next_entry at sound entry) 0) → acts ≡ proposing self at entry → HasProposed members leader best at now advice cluster next
     proposed entry needed is = record {
       entry = next_entry at sound entry;
       needed = needed;
-      asked = λ who below apart. round_occurs members now advice answers calm leader who (Accept (record { slot = at.prefix; ballot = at.ballot; entry = entry })) member (asks_in self at entry acts who is apart);
+      asked = λ who below apart. round_occurs members now advice answers cluster leader who (Accept (record { slot = at.prefix; ballot = at.ballot; entry = entry })) member (asks_in self at entry acts who is apart);
       flight = new_flight at.prefix entry leader;
       proposes = subst (λ s. Proposes (proposal_of self best at (next_entry at sound entry) 0) (new_flight at.prefix entry leader) s) (sym (after ∙ ap (λ some. after_acts some state) is)) (proposes_it self at best sound entry state more small leading);
       uncalled = ap calls_of is ∙ no_call_propose self (record { slot = at.prefix; ballot = at.ballot; entry = entry }) more small;
     }
 
-    called : (row : SchedRow) → votes_from at.prefix best ≡ [] → plan.intent ≡ intent.Call row.name.job row.name.at row.kind → is_open row.name.job row.name.at at.rows ≡ true → acts ≡ Call row ∷ [] → HasAskedForCall members leader best at now advice calm next
+    called : (row : SchedRow) → votes_from at.prefix best ≡ [] → plan.intent ≡ intent.Call row.name.job row.name.at row.kind → is_open row.name.job row.name.at at.rows ≡ true → acts ≡ Call row ∷ [] → HasAskedForCall members leader best at now advice cluster next
     called row none wants open_there is = record {
       leading = subst (λ s. IsLeading best None at s) (sym (after ∙ (ap (λ some. after_acts some state) is ∙ call_stays row state))) leading;
       free = none;
@@ -144,19 +144,19 @@ tick_outcome members leader best at now advice answers calm member few more soun
       open_there = open_there;
     }
 
-    rested : votes_from at.prefix best ≡ [] → plan.intent ≡ intent.Rest → acts ≡ Send Others (Lead at.ballot at.prefix) ∷ [] → HasRested members leader best at now advice calm next
+    rested : votes_from at.prefix best ≡ [] → plan.intent ≡ intent.Rest → acts ≡ Send Others (Lead at.ballot at.prefix) ∷ [] → HasIdled members leader best at now advice cluster next
     rested none wants is = record {
       leading = subst (λ s. IsLeading best None at s) (sym (after ∙ (ap (λ some. after_acts some state) is ∙ saying_stays (Lead at.ballot at.prefix) state))) leading;
       free = none;
       asked = wants;
       rests = subst (λ some. IsIntent at.table at.rows now some) wants asked;
-      told = λ who below apart. round_occurs members now advice answers calm leader who (Lead at.ballot at.prefix) member
+      told = λ who below apart. round_occurs members now advice answers cluster leader who (Lead at.ballot at.prefix) member
           (subst (λ some. Occurs (letter_from leader (sent_to leader who some)) leader (Lead at.ballot at.prefix)) (sym is)
           (occurs_letter leader (Lead at.ballot at.prefix) (sent_to leader who (Send Others (Lead at.ballot at.prefix) ∷ [])) (in_first (Lead at.ballot at.prefix) []) (says_to_all leader who (Lead at.ballot at.prefix) apart)));
       uncalled = ap calls_of is ∙ no_call_saying (Lead at.ballot at.prefix);
     }
 
-    goes : acts ≡ tick_of self now plan.intent state state.term → Begun self at best sound now plan.intent (tick_of self now plan.intent state state.term) state → Begins members leader best at now advice calm next
+    goes : acts ≡ tick_of self now plan.intent state state.term → Begun self at best sound now plan.intent (tick_of self now plan.intent state state.term) state → Begins members leader best at now advice cluster next
     goes is begun = elim begun [
       | begins_entry entry needed such ↦ proposes (proposed entry needed (is ∙ such))
       | calls_for row none wants open_there such ↦ calls (called row none wants open_there (is ∙ such))

@@ -18,9 +18,9 @@ use Rattle.step_spec.specs.State.{Identity, State, prefix_of, promised_in}
 use Rattle.step_spec.specs.Step.{Answer, Event, Hear, Plan, Tick, step}
 use Rattle.agreement.specs.Transition.{identity_of}
 use Rattle.step_spec.proofs.Said.{stays_coherent}
-use Rattle.synchronous_rounds.specs.Calm.{Advice, ArePlanned, Calm, HeardLetter, IsAdvised, after_events, answer_events, before_tick, calm_round, events_at, hear_events, letter_from, letters_to}
+use Rattle.synchronous_rounds.specs.Cluster.{Advice, ArePlanned, Cluster, HeardLetter, IsAdvised, after_events, answer_events, before_tick, cluster_round, events_at, hear_events, letter_from, letters_to}
 use Rattle.synchronous_rounds.specs.Flights.{with_base}
-use Rattle.synchronous_rounds.specs.Ruled.{AreWithin, IsHolding, Occurs, Progress, StaysWithin}
+use Rattle.synchronous_rounds.specs.LedAlone.{AreWithin, IsHolding, Occurs, Progress, StaysWithin}
 use Rattle.synchronous_rounds.proofs.ActLemmas.{observed}
 use Rattle.synchronous_rounds.proofs.FollowerLemmas.{behind_tick}
 use Rattle.synchronous_rounds.proofs.LeaderLemmas.{hold_line}
@@ -95,28 +95,28 @@ hears_more [] letter = refl
 hears_more (first ∷ front) letter = ap (λ rest. Hear first.from first.messages ∷ rest) (hears_more front letter)
 
 -- the round of one of the others
-third_promises : (members candidate top : ℕ) (best : List Vote) (at : Progress) (now : ℤ) (advice : ℕ → Advice) (answers : ℕ → Option SchedRow) (calm : Calm) → HasCampaignedAgain members candidate top best at calm → IsAdvised members at.table now advice calm → (who : ℕ) → who < members → (who ≡ candidate → ⊥) → HasPromisedAgain who at.ballot at.prefix ((calm_round members now advice answers calm).mails candidate) ((calm_round members now advice answers calm).replicas who)
-third_promises members candidate top best at now advice answers calm campaigned advised who below apart =
-    promised_in_more who at.ballot at.prefix ((calm_round members now advice answers calm).replicas who) (letters_to self candidate (events_at now advice calm who) (calm.replicas who)) ((calm_round members now advice answers calm).mails candidate)
-    (λ message occurs. occurs_next members now advice answers calm who candidate message below occurs)
-    (subst (λ events. HasPromisedAgain who at.ballot at.prefix (letters_to self candidate events (calm.replicas who)) (after_events self events (calm.replicas who))) (sym is)
-    (promises_round self at.table candidate at.ballot at.prefix top now (advice who).plan (calm.waits who) (advice who).rows mail.front (calm.replicas who) (λ same. apart (sym same)) campaigned.above campaigned.one.more (omega (arith, below, campaigned.one.few)) (advised.coherent who below) mail.within (campaigned.low who below apart) (campaigned.short who below apart)
-    (subst (λ events. ArePlanned self at.table events (calm.replicas who)) is (advised.planned who below))))
+third_promises : (members candidate top : ℕ) (best : List Vote) (at : Progress) (now : ℤ) (advice : ℕ → Advice) (answers : ℕ → Option SchedRow) (cluster : Cluster) → HasCampaignedAgain members candidate top best at cluster → IsAdvised members at.table now advice cluster → (who : ℕ) → who < members → (who ≡ candidate → ⊥) → HasPromisedAgain who at.ballot at.prefix ((cluster_round members now advice answers cluster).mails candidate) ((cluster_round members now advice answers cluster).replicas who)
+third_promises members candidate top best at now advice answers cluster campaigned advised who below apart =
+    promised_in_more who at.ballot at.prefix ((cluster_round members now advice answers cluster).replicas who) (letters_to self candidate (events_at now advice cluster who) (cluster.replicas who)) ((cluster_round members now advice answers cluster).mails candidate)
+    (λ message occurs. occurs_next members now advice answers cluster who candidate message below occurs)
+    (subst (λ events. HasPromisedAgain who at.ballot at.prefix (letters_to self candidate events (cluster.replicas who)) (after_events self events (cluster.replicas who))) (sym is)
+    (promises_round self at.table candidate at.ballot at.prefix top now (advice who).plan (cluster.waits who) (advice who).rows mail.front (cluster.replicas who) (λ same. apart (sym same)) campaigned.above campaigned.one.more (omega (arith, below, campaigned.one.few)) (advised.coherent who below) mail.within (campaigned.low who below apart) (campaigned.short who below apart)
+    (subst (λ events. ArePlanned self at.table events (cluster.replicas who)) is (advised.planned who below))))
   where
     self : Identity
     self = identity_of members who
 
-    mail : EndsWithCampaign candidate top at (calm.mails who)
+    mail : EndsWithCampaign candidate top at (cluster.mails who)
     mail = campaigned.asked who below apart
 
     last : List Event
     last = Hear candidate (Prepare at.ballot at.prefix ∷ []) ∷ Tick now (advice who).plan ∷ []
 
-    is : events_at now advice calm who ≡ answer_events (calm.waits who) (advice who).rows ++ (hear_events mail.front ++ last)
+    is : events_at now advice cluster who ≡ answer_events (cluster.waits who) (advice who).rows ++ (hear_events mail.front ++ last)
     is =
-        ap (λ some. answer_events (calm.waits who) (advice who).rows ++ (hear_events some ++ Tick now (advice who).plan ∷ [])) mail.is
-        ∙ ap (λ events. answer_events (calm.waits who) (advice who).rows ++ (events ++ Tick now (advice who).plan ∷ [])) (hears_more mail.front (record { from = candidate; messages = Prepare at.ballot at.prefix ∷ [] }))
-        ∙ ap (λ events. answer_events (calm.waits who) (advice who).rows ++ events) (append_assoc (hear_events mail.front) (Hear candidate (Prepare at.ballot at.prefix ∷ []) ∷ []) (Tick now (advice who).plan ∷ []))
+        ap (λ some. answer_events (cluster.waits who) (advice who).rows ++ (hear_events some ++ Tick now (advice who).plan ∷ [])) mail.is
+        ∙ ap (λ events. answer_events (cluster.waits who) (advice who).rows ++ (events ++ Tick now (advice who).plan ∷ [])) (hears_more mail.front (record { from = candidate; messages = Prepare at.ballot at.prefix ∷ [] }))
+        ∙ ap (λ events. answer_events (cluster.waits who) (advice who).rows ++ events) (append_assoc (hear_events mail.front) (Hear candidate (Prepare at.ballot at.prefix ∷ []) ∷ []) (Tick now (advice who).plan ∷ []))
 
 -- ---- the candidate: no letter names its ballot
 
@@ -164,17 +164,17 @@ stays_mail self first heard top best at (letter ∷ mail) state above within hol
 -- ---- the round
 
 -- all others promise the second campaign's ballot, and the candidate is one still
-pub third_round : (members candidate top : ℕ) (best : List Vote) (at : Progress) (now : ℤ) (advice : ℕ → Advice) (answers : ℕ → Option SchedRow) (calm : Calm) → HasCampaignedAgain members candidate top best at calm → IsAdvised members at.table now advice calm → (base : ℕ) × HaveAllPromised members candidate best (with_base base at) (calm_round members now advice answers calm)
-third_round members candidate top best at now advice answers calm campaigned advised =
+pub third_round : (members candidate top : ℕ) (best : List Vote) (at : Progress) (now : ℤ) (advice : ℕ → Advice) (answers : ℕ → Option SchedRow) (cluster : Cluster) → HasCampaignedAgain members candidate top best at cluster → IsAdvised members at.table now advice cluster → (base : ℕ) × HaveAllPromised members candidate best (with_base base at) (cluster_round members now advice answers cluster)
+third_round members candidate top best at now advice answers cluster campaigned advised =
     let self = identity_of members candidate in
-    let before = before_tick members advice calm candidate in
-    let heard = stays_mail self at.prefix (only_member candidate) top best at (calm.mails candidate) (calm.replicas candidate) campaigned.above campaigned.unheard campaigned.stands in
-    let planned = round_planned members at.table now advice calm candidate campaigned.one.member advised in
-    let mine = candidate_tick self at.prefix (only_member candidate) best at now (advice candidate).plan before (subst (λ s. IsCandidate best at candidate s) (sym (mail_alone members advice calm candidate campaigned.alone)) heard) planned.0 in (
+    let before = before_tick members advice cluster candidate in
+    let heard = stays_mail self at.prefix (only_member candidate) top best at (cluster.mails candidate) (cluster.replicas candidate) campaigned.above campaigned.unheard campaigned.stands in
+    let planned = round_planned members at.table now advice cluster candidate campaigned.one.member advised in
+    let mine = candidate_tick self at.prefix (only_member candidate) best at now (advice candidate).plan before (subst (λ s. IsCandidate best at candidate s) (sym (mail_alone members advice cluster candidate campaigned.alone)) heard) planned.0 in (
       mine.0,
       record {
         one = campaigned.one;
-        stands = subst (λ s. IsCandidate best (with_base mine.0 at) candidate s) (sym (round_after members now advice answers calm candidate)) mine.1;
-        promised = third_promises members candidate top best at now advice answers calm campaigned advised;
+        stands = subst (λ s. IsCandidate best (with_base mine.0 at) candidate s) (sym (round_after members now advice answers cluster candidate)) mine.1;
+        promised = third_promises members candidate top best at now advice answers cluster campaigned advised;
       },
     )

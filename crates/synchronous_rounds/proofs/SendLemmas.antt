@@ -21,8 +21,8 @@ use Rattle.step_spec.proofs.VoteLemmas.{found_vote}
 use Rattle.step_spec.proofs.Lists.{nothing_in}
 use Rattle.agreement.proofs.Kept.{leads_own, own_ballot}
 use Rattle.step_spec.proofs.Said.{setting_of, stays_coherent, step_may_be_done}
-use Rattle.synchronous_rounds.specs.Calm.{ArePlanned, after_events, letter_from, letters_to}
-use Rattle.synchronous_rounds.specs.Ruled.{AreWithin, StaysWithin, TellsBelow}
+use Rattle.synchronous_rounds.specs.Cluster.{ArePlanned, after_events, letter_from, letters_to}
+use Rattle.synchronous_rounds.specs.LedAlone.{AreWithin, StaysWithin, TellsBelow}
 use Rattle.synchronous_rounds.proofs.Lists.{all_join}
 use Rattle.due_set.proofs.Rising.{Contains-cases as cons_cases}
 

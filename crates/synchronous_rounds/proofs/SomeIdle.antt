@@ -1,4 +1,4 @@
--- Two replicas over a table without jobs, of which one leads alone and rests; and rounds after it.
+-- Two replicas over a table without jobs, of which one leads alone and is idle; and rounds after it.
 use Rattle.std.proofs.Common.{◌≡◌, ℕ, zero, suc, ◌+◌, ◌<◌, ◌≤◌, List, [], ◌∷◌, ◌++◌, length, Option, None, Some, ℤ, refl, inl, inr, arith, lit<}
 use Rattle.std.specs.List.{slice_get}
 use Rattle.std.proofs.lemmas.List.Elements.{All-nil}
@@ -22,9 +22,9 @@ use Rattle.step_spec.specs.Step.{Event, IsLaunchTable, IsPlanned, Tick, step}
 use Rattle.agreement.specs.Transition.{identity_of}
 use Rattle.step_spec.proofs.Said.{stays_coherent}
 use Rattle.history.proofs.Asks.{busy, minute, sound}
-use Rattle.synchronous_rounds.specs.Calm.{Advice, ArePlanned, Calm, HeardLetter, IsAdvised, after_events, answer_events, calls_at, calm_round, events_at, events_of, hear_events}
+use Rattle.synchronous_rounds.specs.Cluster.{Advice, ArePlanned, Cluster, HeardLetter, IsAdvised, after_events, answer_events, calls_at, cluster_round, events_at, events_of, hear_events}
 use Rattle.synchronous_rounds.specs.Rounds.{IsAnswerTo}
-use Rattle.synchronous_rounds.specs.Ruled.{IsBehind, Progress}
+use Rattle.synchronous_rounds.specs.LedAlone.{IsBehind, Progress}
 use Rattle.synchronous_rounds.specs.CatchUp.{AreFiveRounds, IsIdle, IsRoundAt}
 
 -- ---- the table
@@ -78,29 +78,29 @@ coherent_after self table (event ∷ events) state small coherent planned =
     coherent_after self table events (after_acts (step self event state) state) small (stays_coherent self table event state small coherent planned.0) planned.1
 
 -- what the launch tables say in it
-advice_of : ℕ → Calm → ℕ → Advice
-advice_of members calm who =
-    let rows = (rows_then (calm.replicas who)).0 in
+advice_of : ℕ → Cluster → ℕ → Advice
+advice_of members cluster who =
+    let rows = (rows_then (cluster.replicas who)).0 in
     record {
       rows = rows;
       plan = record {
-        rows = (rows_then (after_events (identity_of members who) (answer_events (calm.waits who) rows ++ hear_events (calm.mails who)) (calm.replicas who))).0;
+        rows = (rows_then (after_events (identity_of members who) (answer_events (cluster.waits who) rows ++ hear_events (cluster.mails who)) (cluster.replicas who))).0;
         intent = Rest;
       };
     }
 
-abbrev AreCoherent : ℕ → Calm → Type 0
-AreCoherent members calm = (who : ℕ) → who < members → IsCoherent (identity_of members who) (calm.replicas who)
+abbrev AreCoherent : ℕ → Cluster → Type 0
+AreCoherent members cluster = (who : ℕ) → who < members → IsCoherent (identity_of members who) (cluster.replicas who)
 
-advised_by : (members : ℕ) (now : ℤ) (calm : Calm) → AreCoherent members calm → IsAdvised members bare now (advice_of members calm) calm
+advised_by : (members : ℕ) (now : ℤ) (cluster : Cluster) → AreCoherent members cluster → IsAdvised members bare now (advice_of members cluster) cluster
 unfolding advice_of rows_then
-advised_by members now calm coherent = record {
+advised_by members now cluster coherent = record {
   coherent = coherent;
   planned = λ who below.
       let self = identity_of members who in
-      let rows = rows_then (calm.replicas who) in
-      let tick = rows_then (after_events self (answer_events (calm.waits who) rows.0 ++ hear_events (calm.mails who)) (calm.replicas who)) in
-      planned_events self bare now (advice_of members calm who) (calm.waits who) (calm.mails who) (calm.replicas who) rows.1 (tick.1, bare_rests tick.0 now);
+      let rows = rows_then (cluster.replicas who) in
+      let tick = rows_then (after_events self (answer_events (cluster.waits who) rows.0 ++ hear_events (cluster.mails who)) (cluster.replicas who)) in
+      planned_events self bare now (advice_of members cluster who) (cluster.waits who) (cluster.mails who) (cluster.replicas who) rows.1 (tick.1, bare_rests tick.0 now);
 }
 
 -- a call is answered by its own row
@@ -114,33 +114,33 @@ answers_them [] = refl
 answers_them (row ∷ rows) = (row, refl, refl)
 
 -- a round, after which each replica is coherent still
-record SomeRound (members leader : ℕ) (now : ℤ) (calm : Calm) : Type 0 where
-  next : Calm
-  round : IsRoundAt members leader bare now calm next
+record SomeRound (members leader : ℕ) (now : ℤ) (cluster : Cluster) : Type 0 where
+  next : Cluster
+  round : IsRoundAt members leader bare now cluster next
   coherent : AreCoherent members next
 
-some_round : (members leader : ℕ) (now : ℤ) (calm : Calm) → members ≤ 7 → AreCoherent members calm → SomeRound members leader now calm
-some_round members leader now calm few coherent = record {
-  next = calm_round members now (advice_of members calm) (λ who. answer_of_calls calls) calm;
-  round = record { advice = advice_of members calm; answers = λ who. answer_of_calls calls; advised = advised; answered = answers_them calls; is = refl };
+some_round : (members leader : ℕ) (now : ℤ) (cluster : Cluster) → members ≤ 7 → AreCoherent members cluster → SomeRound members leader now cluster
+some_round members leader now cluster few coherent = record {
+  next = cluster_round members now (advice_of members cluster) (λ who. answer_of_calls calls) cluster;
+  round = record { advice = advice_of members cluster; answers = λ who. answer_of_calls calls; advised = advised; answered = answers_them calls; is = refl };
   coherent = λ who below.
-      coherent_after (identity_of members who) bare (events_at now (advice_of members calm) calm who) (calm.replicas who) (omega (arith, below, few))
+      coherent_after (identity_of members who) bare (events_at now (advice_of members cluster) cluster who) (cluster.replicas who) (omega (arith, below, few))
       (coherent who below) (advised.planned who below);
 }
   where
     calls : List SchedRow
-    calls = calls_at members now (advice_of members calm) calm leader
+    calls = calls_at members now (advice_of members cluster) cluster leader
 
-    advised : IsAdvised members bare now (advice_of members calm) calm
-    advised = advised_by members now calm coherent
+    advised : IsAdvised members bare now (advice_of members cluster) cluster
+    advised = advised_by members now cluster coherent
 
-record SomeRounds (members leader : ℕ) (now : ℤ) (calm : Calm) : Type 0 where
-  five : Calm
-  rounds : AreFiveRounds members leader bare now calm five
+record SomeRounds (members leader : ℕ) (now : ℤ) (cluster : Cluster) : Type 0 where
+  five : Cluster
+  rounds : AreFiveRounds members leader bare now cluster five
 
-some_rounds : (members leader : ℕ) (now : ℤ) (calm : Calm) → members ≤ 7 → AreCoherent members calm → SomeRounds members leader now calm
-some_rounds members leader now calm few coherent =
-    let a = some_round members leader now calm few coherent in
+some_rounds : (members leader : ℕ) (now : ℤ) (cluster : Cluster) → members ≤ 7 → AreCoherent members cluster → SomeRounds members leader now cluster
+some_rounds members leader now cluster few coherent =
+    let a = some_round members leader now cluster few coherent in
     let b = some_round members leader now a.next few a.coherent in
     let c = some_round members leader now b.next few b.coherent in
     let d = some_round members leader now c.next few c.coherent in
@@ -176,24 +176,24 @@ abbrev two : {A : Type 0} → A → A → ℕ → A
 two first second zero = first
 two first second (suc more) = second
 
-abbrev some_calm : ℕ → List Entry → Calm
-some_calm base learned = record { replicas = two (ahead base learned) lagging; waits = λ who. None; mails = λ who. [] }
+abbrev some_cluster : ℕ → List Entry → Cluster
+some_cluster base learned = record { replicas = two (ahead base learned) lagging; waits = λ who. None; mails = λ who. [] }
 
 abbrev far : ℕ → Progress
 far base = record { ballot = 16; table = bare; rows = []; prefix = 1; base = base }
 
-coherent_two : (base : ℕ) (learned : List Entry) → AreCoherent 2 (some_calm base learned)
+coherent_two : (base : ℕ) (learned : List Entry) → AreCoherent 2 (some_cluster base learned)
 coherent_two base learned zero below =
     record { promised = omega arith; term = (record { promised = refl; member = refl; round = refl }, tt); votes = All-nil (λ vote. vote.ballot ≤ 16) }
 coherent_two base learned (suc zero) below = record { promised = omega arith; term = tt; votes = All-nil (λ vote. vote.ballot ≤ 16) }
 coherent_two base learned (suc (suc more)) below = absurd (omega (arith, below))
 
-some_idle : (base : ℕ) (learned : List Entry) (now : ℤ) → base + length learned ≡ 1 → IsLaunchTable bare (ahead base learned) [] → IsIdle 2 0 [] (far base) now (some_calm base learned)
+some_idle : (base : ℕ) (learned : List Entry) (now : ℤ) → base + length learned ≡ 1 → IsLaunchTable bare (ahead base learned) [] → IsIdle 2 0 [] (far base) now (some_cluster base learned)
 unfolding votes_from
 some_idle base learned now long launch = record {
   free = record {
     free = record {
-      ruled = record { member = lit< tt; few = omega arith; more = omega arith; behind = behind; within = λ who below. tt; from = λ who below. tt };
+      led_alone = record { member = lit< tt; few = omega arith; more = omega arith; behind = behind; within = λ who below. tt; from = λ who below. tt };
       leading = record { is = refl; promised = refl; launch = launch; learned = long; from_base = refl };
       sound = bare_sound;
     };
@@ -203,18 +203,18 @@ some_idle base learned now long launch = record {
   rests = bare_rests [] now;
 }
   where
-    behind : (who : ℕ) → who < 2 → (who ≡ 0 → ⊥) → IsBehind 16 1 ((some_calm base learned).replicas who)
+    behind : (who : ℕ) → who < 2 → (who ≡ 0 → ⊥) → IsBehind 16 1 ((some_cluster base learned).replicas who)
     behind zero below apart = absurd (apart refl)
     behind (suc more) below apart = record { promised = omega arith; follows = tt; short = omega arith }
 
 -- ---- the witnesses
 
-pub some_ahead_of_base : (members : ℕ) × (leader : ℕ) × (best : List Vote) × (at : Progress) × (now : ℤ) × (calm : Calm) × (five : Calm) × (who : ℕ) × IsIdle members leader best at now calm × AreFiveRounds members leader at.table now calm five × (who < members) × (prefix_of (calm.replicas who) < at.prefix) × (at.base ≤ prefix_of (calm.replicas who))
+pub some_ahead_of_base : (members : ℕ) × (leader : ℕ) × (best : List Vote) × (at : Progress) × (now : ℤ) × (cluster : Cluster) × (five : Cluster) × (who : ℕ) × IsIdle members leader best at now cluster × AreFiveRounds members leader at.table now cluster five × (who < members) × (prefix_of (cluster.replicas who) < at.prefix) × (at.base ≤ prefix_of (cluster.replicas who))
 some_ahead_of_base =
-    let rounds = some_rounds 2 0 (minute 0) (some_calm 0 (Noop ∷ [])) (omega arith) (coherent_two 0 (Noop ∷ [])) in
-    (2, 0, [], far 0, minute 0, some_calm 0 (Noop ∷ []), rounds.five, 1, some_idle 0 (Noop ∷ []) (minute 0) refl ([], inr ((λ takes. takes), refl), refl), rounds.rounds, omega arith, omega arith, omega arith)
+    let rounds = some_rounds 2 0 (minute 0) (some_cluster 0 (Noop ∷ [])) (omega arith) (coherent_two 0 (Noop ∷ [])) in
+    (2, 0, [], far 0, minute 0, some_cluster 0 (Noop ∷ []), rounds.five, 1, some_idle 0 (Noop ∷ []) (minute 0) refl ([], inr ((λ takes. takes), refl), refl), rounds.rounds, omega arith, omega arith, omega arith)
 
-pub some_ahead_at_base : (members : ℕ) × (leader : ℕ) × (best : List Vote) × (at : Progress) × (now : ℤ) × (calm : Calm) × (five : Calm) × (who : ℕ) × IsIdle members leader best at now calm × AreFiveRounds members leader at.table now calm five × (who < members) × (prefix_of (calm.replicas who) < at.base)
+pub some_ahead_at_base : (members : ℕ) × (leader : ℕ) × (best : List Vote) × (at : Progress) × (now : ℤ) × (cluster : Cluster) × (five : Cluster) × (who : ℕ) × IsIdle members leader best at now cluster × AreFiveRounds members leader at.table now cluster five × (who < members) × (prefix_of (cluster.replicas who) < at.base)
 some_ahead_at_base =
-    let rounds = some_rounds 2 0 (minute 0) (some_calm 1 []) (omega arith) (coherent_two 1 []) in
-    (2, 0, [], far 1, minute 0, some_calm 1 [], rounds.five, 1, some_idle 1 [] (minute 0) refl refl, rounds.rounds, omega arith, omega arith)
+    let rounds = some_rounds 2 0 (minute 0) (some_cluster 1 []) (omega arith) (coherent_two 1 []) in
+    (2, 0, [], far 1, minute 0, some_cluster 1 [], rounds.five, 1, some_idle 1 [] (minute 0) refl refl, rounds.rounds, omega arith, omega arith)

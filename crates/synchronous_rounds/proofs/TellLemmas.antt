@@ -20,14 +20,14 @@ use Rattle.step_spec.specs.State.{Identity, State, prefix_of, promised_in}
 use Rattle.step_spec.specs.Step.{Tick, Plan, step}
 use Rattle.step_spec.proofs.Lists.{nothing_in}
 use Rattle.agreement.specs.Transition.{identity_of}
-use Rattle.synchronous_rounds.specs.Calm.{Advice, Calm, HeardLetter, calm_round, events_at, hear_events, letter_from, letters_to}
+use Rattle.synchronous_rounds.specs.Cluster.{Advice, Cluster, HeardLetter, cluster_round, events_at, hear_events, letter_from, letters_to}
 use Rattle.synchronous_rounds.specs.Rounds.{IsFreeNow}
-use Rattle.synchronous_rounds.specs.Ruled.{AreWithin, IsLeading, Occurs, Progress, StaysWithin}
+use Rattle.synchronous_rounds.specs.LedAlone.{AreWithin, IsLeading, Occurs, Progress, StaysWithin}
 use Rattle.synchronous_rounds.proofs.ActLemmas.{observed}
 use Rattle.synchronous_rounds.proofs.LeaderLemmas.{free_all, free_hear, leading_observed}
 use Rattle.synchronous_rounds.proofs.Lists.{range_in}
 use Rattle.synchronous_rounds.specs.CatchUp.{AreTold, HaveAsked, IsPieceOf, TellsWhatIsLacked, entries_from, table_and}
-use Rattle.synchronous_rounds.proofs.KeepLemmas.{answer_after, keeps_mail, level_mail}
+use Rattle.synchronous_rounds.proofs.KeepLemmas.{answer_after, keeps_mail, caught_up_mail}
 use Rattle.due_set.proofs.Rising.{Contains-head as in_first, Contains-cases as cons_cases}
 use Rattle.step_spec.proofs.OutLemmas.{flat_has as flat_in}
 
@@ -340,28 +340,28 @@ tells_mail self best at who slot now plan (letter ∷ mail) state within occurs 
     ]
 
 -- all that have asked are told
-pub told_next : (members leader : ℕ) (best : List Vote) (at : Progress) (now : ℤ) (advice : ℕ → Advice) (answers : ℕ → Option SchedRow) (calm : Calm) → IsFreeNow members leader best at calm → HaveAsked members leader at.prefix calm → AreTold members leader at.prefix (calm_round members now advice answers calm)
-told_next members leader best at now advice answers calm free asked who below apart =
+pub told_next : (members leader : ℕ) (best : List Vote) (at : Progress) (now : ℤ) (advice : ℕ → Advice) (answers : ℕ → Option SchedRow) (cluster : Cluster) → IsFreeNow members leader best at cluster → HaveAsked members leader at.prefix cluster → AreTold members leader at.prefix (cluster_round members now advice answers cluster)
+told_next members leader best at now advice answers cluster free asked who below apart =
     let self = identity_of members who in
-    let ruled = free.free.ruled in
-    let behind = ruled.behind who below apart in
-    let mail = calm.mails who in
+    let led_alone = free.free.led_alone in
+    let behind = led_alone.behind who below apart in
+    let mail = cluster.mails who in
     let rest = hear_events mail ++ Tick now (advice who).plan ∷ [] in
-    let after = answer_after self (calm.waits who) (advice who).rows rest (calm.replicas who) behind.follows in
-    let up = keeps_mail self at.ballot at.prefix now (advice who).plan mail (calm.replicas who) (ruled.within who below) behind in
+    let after = answer_after self (cluster.waits who) (advice who).rows rest (cluster.replicas who) behind.follows in
+    let up = keeps_mail self at.ballot at.prefix now (advice who).plan mail (cluster.replicas who) (led_alone.within who below) behind in
     elim (asked who below apart) [
-      | inl all ↦ inl (rw after (level_mail self at.ballot at.prefix now (advice who).plan mail (calm.replicas who) (ruled.within who below) behind (omega (arith, all))))
+      | inl all ↦ inl (rw after (caught_up_mail self at.ballot at.prefix now (advice who).plan mail (cluster.replicas who) (led_alone.within who below) behind (omega (arith, all))))
       | inr lacks ↦
           let short = lacks.short in
-          elim (tells_mail (identity_of members leader) best at who lacks.slot now (advice leader).plan (calm.mails leader) (calm.replicas leader) (ruled.within leader ruled.member) lacks.asks (omega (arith, short, behind.short)) free.free.leading) [
+          elim (tells_mail (identity_of members leader) best at who lacks.slot now (advice leader).plan (cluster.mails leader) (cluster.replicas leader) (led_alone.within leader led_alone.member) lacks.asks (omega (arith, short, behind.short)) free.free.leading) [
             | inl tells ↦ inr (record {
               slot = lacks.slot;
               short = rw after (omega (arith, short, up));
               letter = tells.letter;
-              there = flat_in (λ q. letters_to (identity_of members q) who (events_at now advice calm q) (calm.replicas q)) (range_with_len 0 members) leader tells.letter (range_in 0 members leader (omega arith) (omega (arith, ruled.member))) (rw free.alone tells.there);
+              there = flat_in (λ q. letters_to (identity_of members q) who (events_at now advice cluster q) (cluster.replicas q)) (range_with_len 0 members) leader tells.letter (range_in 0 members leader (omega arith) (omega (arith, led_alone.member))) (rw free.alone tells.there);
               is_from = tells.is_from;
               tells = tells.tells;
             })
-            | inr all ↦ inl (rw after (level_mail self at.ballot at.prefix now (advice who).plan mail (calm.replicas who) (ruled.within who below) behind (omega (arith, all, short))))
+            | inr all ↦ inl (rw after (caught_up_mail self at.ballot at.prefix now (advice who).plan mail (cluster.replicas who) (led_alone.within who below) behind (omega (arith, all, short))))
           ]
     ]

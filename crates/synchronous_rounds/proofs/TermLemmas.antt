@@ -22,8 +22,8 @@ use Rattle.step_spec.specs.State.{Identity, State, prefix_of}
 use Rattle.step_spec.specs.Step.{Event, step}
 use Rattle.step_spec.proofs.Lists.{nothing_in}
 use Rattle.step_spec.proofs.Said.{setting_of, stays_coherent, step_may_be_done}
-use Rattle.synchronous_rounds.specs.Calm.{ArePlanned, HeardLetter, after_events, hear_events}
-use Rattle.synchronous_rounds.specs.Ruled.{Occurs}
+use Rattle.synchronous_rounds.specs.Cluster.{ArePlanned, HeardLetter, after_events, hear_events}
+use Rattle.synchronous_rounds.specs.LedAlone.{Occurs}
 use Rattle.synchronous_rounds.proofs.ActLemmas.{follows_later, follows_on}
 use Rattle.synchronous_rounds.proofs.SendLemmas.{IsPlain, no_campaign}
 use Rattle.due_set.proofs.Rising.{Contains-head as in_first, Contains-cases as cons_cases}

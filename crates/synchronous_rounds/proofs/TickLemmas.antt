@@ -17,7 +17,7 @@ use Rattle.step_spec.specs.State.{Identity, State, prefix_of}
 use Rattle.step_spec.specs.Step.{IsLaunchTable}
 use Rattle.synchronous_rounds.specs.Flights.{IsFlight, Proposal, Proposes, waiting, with_base}
 use Rattle.synchronous_rounds.specs.Measure.{due_one}
-use Rattle.synchronous_rounds.specs.Ruled.{IsHolding, IsLeading, Progress}
+use Rattle.synchronous_rounds.specs.LedAlone.{IsHolding, IsLeading, Progress}
 use Rattle.synchronous_rounds.proofs.ActLemmas.{rebased_learned, rebased_prefix}
 
 -- ---- the base

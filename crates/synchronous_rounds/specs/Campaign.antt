@@ -7,8 +7,8 @@ use Rattle.term_core.specs.declared.term.Term.TheVariants.{Candidate}
 use Rattle.step_spec.specs.May.{IsFollower}
 use Rattle.step_spec.specs.Message.{Prepare, Promise, Nack}
 use Rattle.step_spec.specs.State.{State, prefix_of, promised_in}
-use Rattle.synchronous_rounds.specs.Calm.{Advice, Calm, HeardLetter, before_tick}
-use Rattle.synchronous_rounds.specs.Ruled.{IsBehind, IsHolding, IsLeading, IsRuled, Occurs, Progress}
+use Rattle.synchronous_rounds.specs.Cluster.{Advice, Cluster, HeardLetter, before_tick}
+use Rattle.synchronous_rounds.specs.LedAlone.{IsBehind, IsHolding, IsLeading, IsLedAlone, Occurs, Progress}
 
 -- so many replicas as a cluster may have, and more than one, and this is one of them
 pub record IsOneOf (members who : ℕ) : Type 0 where
@@ -22,15 +22,15 @@ IsCandidate best at me state = IsHolding (Candidate at.ballot at.prefix (only_me
 
 -- A replica has just campaigned, in a ballot that no other has promised. None has learned more, its campaign is the one letter on
 -- its way to each other, and there is none to it.
-pub record HasCampaigned (members candidate : ℕ) (best : List Vote) (at : Progress) (calm : Calm) : Type 0 where
+pub record HasCampaigned (members candidate : ℕ) (best : List Vote) (at : Progress) (cluster : Cluster) : Type 0 where
   pub one : IsOneOf members candidate
-  pub stands : IsCandidate best at candidate (calm.replicas candidate)
-  pub alone : calm.waits candidate ≡ None
-  pub unread : calm.mails candidate ≡ []
+  pub stands : IsCandidate best at candidate (cluster.replicas candidate)
+  pub alone : cluster.waits candidate ≡ None
+  pub unread : cluster.mails candidate ≡ []
   pub asked : (who : ℕ) → who < members → (who ≡ candidate → ⊥)
-      → calm.mails who ≡ record { from = candidate; messages = Prepare at.ballot at.prefix ∷ [] } ∷ []
-  pub short : (who : ℕ) → who < members → prefix_of (calm.replicas who) ≤ at.prefix
-  pub fresh : (who : ℕ) → who < members → (who ≡ candidate → ⊥) → promised_in (calm.replicas who).kept ≡ at.ballot → ⊥
+      → cluster.mails who ≡ record { from = candidate; messages = Prepare at.ballot at.prefix ∷ [] } ∷ []
+  pub short : (who : ℕ) → who < members → prefix_of (cluster.replicas who) ≤ at.prefix
+  pub fresh : (who : ℕ) → who < members → (who ≡ candidate → ⊥) → promised_in (cluster.replicas who).kept ≡ at.ballot → ⊥
 
 -- ---- what a replica answers to a campaign
 
@@ -48,23 +48,23 @@ pub record HasRefused (me ballot prefix : ℕ) (mail : List HeardLetter) (state 
   pub told : Occurs mail me (Nack ballot (promised_in state.kept))
 
 -- All others have answered the campaign, and the candidate has heard none of them yet.
-pub record HaveAllAnswered (members candidate : ℕ) (best : List Vote) (at : Progress) (calm : Calm) : Type 0 where
+pub record HaveAllAnswered (members candidate : ℕ) (best : List Vote) (at : Progress) (cluster : Cluster) : Type 0 where
   pub one : IsOneOf members candidate
-  pub stands : IsCandidate best at candidate (calm.replicas candidate)
+  pub stands : IsCandidate best at candidate (cluster.replicas candidate)
   pub answered : (who : ℕ) → who < members → (who ≡ candidate → ⊥)
-      → HasPromised who at.ballot at.prefix (calm.mails candidate) (calm.replicas who)
-      ⊎ HasRefused who at.ballot at.prefix (calm.mails candidate) (calm.replicas who)
+      → HasPromised who at.ballot at.prefix (cluster.mails candidate) (cluster.replicas who)
+      ⊎ HasRefused who at.ballot at.prefix (cluster.mails candidate) (cluster.replicas who)
 
 -- ---- what becomes of the candidate
 
 -- It leads once it has heard its mail, bound by some votes and without a flight, and leads alone after the round.
-pub record ComesToLead (members leader : ℕ) (at : Progress) (advice : ℕ → Advice) (calm next : Calm) : Type 0 where
+pub record ComesToLead (members leader : ℕ) (at : Progress) (advice : ℕ → Advice) (cluster next : Cluster) : Type 0 where
   pub best : List Vote
-  pub leading : IsLeading best None at (before_tick members advice calm leader)
-  pub ruled : IsRuled members leader at.ballot at.prefix next
+  pub leading : IsLeading best None at (before_tick members advice cluster leader)
+  pub led_alone : IsLedAlone members leader at.ballot at.prefix next
 
 -- It follows after the round, and has seen a ballot above its own, and each ballot that another had promised before it.
-pub record HasYielded (members candidate ballot : ℕ) (calm next : Calm) : Type 0 where
+pub record HasYielded (members candidate ballot : ℕ) (cluster next : Cluster) : Type 0 where
   pub follows : IsFollower (next.replicas candidate).term
   pub higher : ballot < (next.replicas candidate).seen
-  pub seen : (who : ℕ) → who < members → (who ≡ candidate → ⊥) → promised_in (calm.replicas who).kept ≤ (next.replicas candidate).seen
+  pub seen : (who : ℕ) → who < members → (who ≡ candidate → ⊥) → promised_in (cluster.replicas who).kept ≤ (next.replicas candidate).seen

@@ -1,4 +1,4 @@
--- How the others come to know what a leader knows that leads alone and rests.
+-- How the others come to know what a leader knows that leads alone and is idle.
 use Rattle.std.specs.Prelude.{◌≡◌, ◌⊎◌, ℕ, ◌+◌, ◌<◌, ◌≤◌, List, [], ◌∷◌, ◌++◌, length, Option, ℤ, Contains}
 use Rattle.paxos_base.specs.Vote.{votes_from}
 use Rattle.paxos_base.specs.declared.entry.Entry.{Entry}
@@ -11,33 +11,33 @@ use Rattle.launch_machine.specs.declared.machine.Intent.TheVariants.{Rest}
 use Rattle.step_spec.specs.Hear.{known_from}
 use Rattle.step_spec.specs.Message.{Message, AskFrom, Lead, Snap}
 use Rattle.step_spec.specs.State.{prefix_of}
-use Rattle.synchronous_rounds.specs.Calm.{Advice, Calm, HeardLetter, IsAdvised, calls_at, calm_round}
+use Rattle.synchronous_rounds.specs.Cluster.{Advice, Cluster, HeardLetter, IsAdvised, calls_at, cluster_round}
 use Rattle.synchronous_rounds.specs.Rounds.{IsAnswerTo, IsFreeNow}
-use Rattle.synchronous_rounds.specs.Ruled.{Occurs, Progress}
+use Rattle.synchronous_rounds.specs.LedAlone.{Occurs, Progress}
 
 -- ---- the leader
 
 -- One leads alone, and has nothing left to do at the instant: no vote binds it, and its launch table asks for nothing.
-pub record IsIdle (members leader : ℕ) (best : List Vote) (at : Progress) (now : ℤ) (calm : Calm) : Type 0 where
-  pub free : IsFreeNow members leader best at calm
+pub record IsIdle (members leader : ℕ) (best : List Vote) (at : Progress) (now : ℤ) (cluster : Cluster) : Type 0 where
+  pub free : IsFreeNow members leader best at cluster
   pub unbound : votes_from at.prefix best ≡ []
   pub rests : IsIntent at.table at.rows now Rest
 
 -- a round at an instant: each replica has its part, by what its launch table says, and the leader's calls are answered
-pub record IsRoundAt (members leader : ℕ) (table : Table) (now : ℤ) (calm next : Calm) : Type 0 where
+pub record IsRoundAt (members leader : ℕ) (table : Table) (now : ℤ) (cluster next : Cluster) : Type 0 where
   pub advice : ℕ → Advice
   pub answers : ℕ → Option SchedRow
-  pub advised : IsAdvised members table now advice calm
-  pub answered : IsAnswerTo (calls_at members now advice calm leader) (answers leader)
-  pub is : next ≡ calm_round members now advice answers calm
+  pub advised : IsAdvised members table now advice cluster
+  pub answered : IsAnswerTo (calls_at members now advice cluster leader) (answers leader)
+  pub is : next ≡ cluster_round members now advice answers cluster
 
 -- five of them, one after another
-pub record AreFiveRounds (members leader : ℕ) (table : Table) (now : ℤ) (calm five : Calm) : Type 0 where
-  pub one : Calm
-  pub two : Calm
-  pub three : Calm
-  pub four : Calm
-  pub first : IsRoundAt members leader table now calm one
+pub record AreFiveRounds (members leader : ℕ) (table : Table) (now : ℤ) (cluster five : Cluster) : Type 0 where
+  pub one : Cluster
+  pub two : Cluster
+  pub three : Cluster
+  pub four : Cluster
+  pub first : IsRoundAt members leader table now cluster one
   pub second : IsRoundAt members leader table now one two
   pub third : IsRoundAt members leader table now two three
   pub fourth : IsRoundAt members leader table now three four
@@ -46,20 +46,20 @@ pub record AreFiveRounds (members leader : ℕ) (table : Table) (now : ℤ) (cal
 -- ---- the others
 
 -- it has said to all others that it leads, and how far it has learned
-abbrev pub HasSaidToAll : (members leader ballot prefix : ℕ) → Calm → Type 0
-HasSaidToAll members leader ballot prefix calm =
-    (who : ℕ) → who < members → (who ≡ leader → ⊥) → Occurs (calm.mails who) leader (Lead ballot prefix)
+abbrev pub HasSaidToAll : (members leader ballot prefix : ℕ) → Cluster → Type 0
+HasSaidToAll members leader ballot prefix cluster =
+    (who : ℕ) → who < members → (who ≡ leader → ⊥) → Occurs (cluster.mails who) leader (Lead ballot prefix)
 
 -- a replica has asked for all that it lacks
-pub record HasAsked (leader who : ℕ) (calm : Calm) : Type 0 where
+pub record HasAsked (leader who : ℕ) (cluster : Cluster) : Type 0 where
   pub slot : ℕ
-  pub asks : Occurs (calm.mails leader) who (AskFrom slot)
-  pub short : slot ≤ prefix_of (calm.replicas who)
+  pub asks : Occurs (cluster.mails leader) who (AskFrom slot)
+  pub short : slot ≤ prefix_of (cluster.replicas who)
 
 -- each of the others has learned as much, or has asked
-abbrev pub HaveAsked : (members leader prefix : ℕ) → Calm → Type 0
-HaveAsked members leader prefix calm =
-    (who : ℕ) → who < members → (who ≡ leader → ⊥) → (prefix_of (calm.replicas who) ≡ prefix) ⊎ HasAsked leader who calm
+abbrev pub HaveAsked : (members leader prefix : ℕ) → Cluster → Type 0
+HaveAsked members leader prefix cluster =
+    (who : ℕ) → who < members → (who ≡ leader → ⊥) → (prefix_of (cluster.replicas who) ≡ prefix) ⊎ HasAsked leader who cluster
 
 -- some messages stand in others, in one piece
 pub record IsPieceOf (piece whole : List Message) : Type 0 where
@@ -76,19 +76,19 @@ pub data TellsWhatIsLacked (slot prefix : ℕ) (messages : List Message) : Type 
       → IsPieceOf (Snap base rows ∷ known_from base entries) messages → TellsWhatIsLacked slot prefix messages
 
 -- a letter from the leader tells a replica what it lacks
-pub record IsTold (leader prefix who : ℕ) (calm : Calm) : Type 0 where
+pub record IsTold (leader prefix who : ℕ) (cluster : Cluster) : Type 0 where
   pub slot : ℕ
-  pub short : slot ≤ prefix_of (calm.replicas who)
+  pub short : slot ≤ prefix_of (cluster.replicas who)
   pub letter : HeardLetter
-  pub there : Contains (calm.mails who) letter
+  pub there : Contains (cluster.mails who) letter
   pub is_from : letter.from ≡ leader
   pub tells : TellsWhatIsLacked slot prefix letter.messages
 
 -- each of the others has learned as much, or is told what it lacks
-abbrev pub AreTold : (members leader prefix : ℕ) → Calm → Type 0
-AreTold members leader prefix calm =
-    (who : ℕ) → who < members → (who ≡ leader → ⊥) → (prefix_of (calm.replicas who) ≡ prefix) ⊎ IsTold leader prefix who calm
+abbrev pub AreTold : (members leader prefix : ℕ) → Cluster → Type 0
+AreTold members leader prefix cluster =
+    (who : ℕ) → who < members → (who ≡ leader → ⊥) → (prefix_of (cluster.replicas who) ≡ prefix) ⊎ IsTold leader prefix who cluster
 
 -- all have learned as much
-abbrev pub AreLevel : (members prefix : ℕ) → Calm → Type 0
-AreLevel members prefix calm = (who : ℕ) → who < members → prefix_of (calm.replicas who) ≡ prefix
+abbrev pub HaveCaughtUp : (members prefix : ℕ) → Cluster → Type 0
+HaveCaughtUp members prefix cluster = (who : ℕ) → who < members → prefix_of (cluster.replicas who) ≡ prefix

@@ -12,8 +12,8 @@ use Rattle.term_core.specs.declared.flight.Flight.{Flight}
 use Rattle.step_spec.specs.Message.{Accept, Accepted}
 use Rattle.step_spec.specs.State.{Identity, State}
 use Rattle.agreement.specs.Agree.{vote_for}
-use Rattle.synchronous_rounds.specs.Calm.{Calm}
-use Rattle.synchronous_rounds.specs.Ruled.{IsLeading, IsRuled, Occurs, Progress}
+use Rattle.synchronous_rounds.specs.Cluster.{Cluster}
+use Rattle.synchronous_rounds.specs.LedAlone.{IsLeading, IsLedAlone, Occurs, Progress}
 
 -- A proposal: the leader that makes it, at its prefix, bound by these votes; the entry, the launch table after it; and for how many
 -- ticks it has waited.
@@ -54,14 +54,14 @@ with_base base at = record at { base = base }
 -- ---- among all
 
 -- all others are asked for their votes
-abbrev pub IsAsked : (members leader : ℕ) → Vote → Calm → Type 0
-IsAsked members leader vote calm =
-    (who : ℕ) → who < members → (who ≡ leader → ⊥) → Occurs (calm.mails who) leader (Accept vote)
+abbrev pub IsAsked : (members leader : ℕ) → Vote → Cluster → Type 0
+IsAsked members leader vote cluster =
+    (who : ℕ) → who < members → (who ≡ leader → ⊥) → Occurs (cluster.mails who) leader (Accept vote)
 
 -- all others have accepted it, and say so
-abbrev pub IsAccepted : (members leader ballot slot : ℕ) → Calm → Type 0
-IsAccepted members leader ballot slot calm =
-    (who : ℕ) → who < members → (who ≡ leader → ⊥) → Occurs (calm.mails leader) who (Accepted ballot slot)
+abbrev pub IsAccepted : (members leader ballot slot : ℕ) → Cluster → Type 0
+IsAccepted members leader ballot slot cluster =
+    (who : ℕ) → who < members → (who ≡ leader → ⊥) → Occurs (cluster.mails leader) who (Accepted ballot slot)
 
 -- a vote binds the leader to propose something, or what it proposes takes effect
 abbrev pub IsNeeded : Proposal → Type 0
@@ -70,11 +70,11 @@ IsNeeded proposal =
     ⊎ TakesEffect proposal.at.table proposal.at.rows proposal.entry
 
 -- **One leads alone, and its proposal is under way.**
-pub record IsUnderWay (proposal : Proposal) (flight : Flight) (calm : Calm) : Type 0 where
-  pub ruled : IsRuled proposal.self.members proposal.self.me proposal.at.ballot proposal.at.prefix calm
-  pub proposes : Proposes proposal flight (calm.replicas proposal.self.me)
+pub record IsUnderWay (proposal : Proposal) (flight : Flight) (cluster : Cluster) : Type 0 where
+  pub led_alone : IsLedAlone proposal.self.members proposal.self.me proposal.at.ballot proposal.at.prefix cluster
+  pub proposes : Proposes proposal flight (cluster.replicas proposal.self.me)
   pub needed : IsNeeded proposal
-  pub alone : calm.waits proposal.self.me ≡ None
+  pub alone : cluster.waits proposal.self.me ≡ None
   pub early : proposal.waited < 3
   pub sound : IsSound proposal.at.table
 

@@ -1,6 +1,6 @@
 pub mod Again
 pub mod Begins
-pub mod Calm
+pub mod Cluster
 pub mod Campaign
 pub mod CatchUp
 pub mod Flights
@@ -8,4 +8,4 @@ pub mod Made
 pub mod Measure
 pub mod Named
 pub mod Rounds
-pub mod Ruled
+pub mod LedAlone

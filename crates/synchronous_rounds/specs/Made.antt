@@ -10,20 +10,20 @@ use Rattle.step_spec.specs.Propose.{next_ballot}
 use Rattle.step_spec.specs.State.{State, prefix_of}
 use Rattle.step_spec.specs.Step.{Campaign, step}
 use Rattle.agreement.specs.Transition.{identity_of}
-use Rattle.synchronous_rounds.specs.Calm.{Calm, letter_from}
-use Rattle.synchronous_rounds.specs.Ruled.{Progress}
+use Rattle.synchronous_rounds.specs.Cluster.{Cluster, letter_from}
+use Rattle.synchronous_rounds.specs.LedAlone.{Progress}
 
 -- the acts of a campaign of one of the replicas
-abbrev pub campaign_acts : (members candidate : ℕ) → Calm → List Act
-campaign_acts members candidate calm = step (identity_of members candidate) Campaign (calm.replicas candidate)
+abbrev pub campaign_acts : (members candidate : ℕ) → Cluster → List Act
+campaign_acts members candidate cluster = step (identity_of members candidate) Campaign (cluster.replicas candidate)
 
 -- the replicas once that one has campaigned, and what it says is the last letter of each mail
-abbrev pub after_campaign : (members candidate : ℕ) → Calm → Calm
-after_campaign members candidate calm =
+abbrev pub after_campaign : (members candidate : ℕ) → Cluster → Cluster
+after_campaign members candidate cluster =
     record {
-      replicas = λ who. if who == candidate then after_acts (campaign_acts members candidate calm) (calm.replicas candidate) else calm.replicas who;
-      waits = calm.waits;
-      mails = λ who. calm.mails who ++ letter_from candidate (sent_to candidate who (campaign_acts members candidate calm));
+      replicas = λ who. if who == candidate then after_acts (campaign_acts members candidate cluster) (cluster.replicas candidate) else cluster.replicas who;
+      waits = cluster.waits;
+      mails = λ who. cluster.mails who ++ letter_from candidate (sent_to candidate who (campaign_acts members candidate cluster));
     }
 
 -- how far the replica is then, in its next ballot, with this launch table

@@ -1,4 +1,4 @@
--- How far a leader is from rest: a number of its replica and of whether an answer waits for it.
+-- How far a leader is from being idle: a number of its replica and of whether an answer waits for it.
 use Rattle.std.specs.Prelude.{ℕ, ◌+◌, ◌-◌, ◌*◌, ◌<◌, List, [], ◌∷◌, Option, None, Some, ℤ, ◌-ℤ◌, unsigned_abs, if◌then◌else◌}
 use Rattle.paxos_base.specs.declared.entry.Vote.{Vote}
 use Rattle.paxos_base.specs.declared.rows.JobRow.{JobRow}
@@ -54,7 +54,7 @@ wait_of (Some row) (Leader ballot best None) = 4
 wait_of None (Leader ballot best None) = 5
 wait_of waits term = 0
 
--- **The measure**: the rounds that are left until the leader rests, at most.
+-- **The measure**: the rounds that are left until the leader is idle, at most.
 abbrev pub rounds_left : ℤ → List JobRow → List Vote → Option SchedRow → State → ℕ
 rounds_left until rows best waits state =
     7 * work until rows best (prefix_of state) + (wait_of waits state.term + due_one state)
@@ -65,7 +65,7 @@ pub record Reckoned : Type 0 where
   pub waits : Option SchedRow
   pub state : State
 
--- the second is nearer to rest than the first, bound by the same votes; its rows are those of its launch table
+-- the second is nearer to being idle than the first, bound by the same votes; its rows are those of its launch table
 pub record IsNearer (table : Table) (best : List Vote) (old new : Reckoned) : Type 0 where
   pub launch : IsLaunchTable table new.state new.rows
   pub nearer : rounds_left table.window.until.0 new.rows best new.waits new.state < rounds_left table.window.until.0 old.rows best old.waits old.state

@@ -1,7 +1,7 @@
-//! Rounds in which all of two to seven replicas run and no letter is lost (`calm_round`). Nothing is asked of a
+//! Rounds in which all of two to seven replicas run and no letter is lost (`cluster_round`). Nothing is asked of a
 //! letter, whoever wrote it; each replica is coherent, and what it knows of its launch table is so (`IsAdvised`). If
 //! one leads alone it does so after each round (`one_leads_on`), its proposal is learned in two (`a_flight_lands`),
-//! and each round brings it nearer to rest, by a number of its replica, or finds it at rest
+//! and each round brings it nearer to being idle, by a number of its replica, or finds it idle
 //! (`each_round_brings_a_leader_nearer`). A campaign of one that has learned no less than any other is answered by
 //! all (`a_campaign_is_answered`); it leads in the next round, or yields and wins its second campaign
 //! (`one_that_yields_campaigns_again`, `a_second_campaign_wins`). Without a campaign the greatest promise stands

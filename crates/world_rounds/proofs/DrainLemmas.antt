@@ -19,7 +19,7 @@ use Rattle.script_semantics.proofs.StartLemmas.{same_coordinator}
 use Rattle.script_semantics.specs.Commands.{Plain, set_by, tasks_for}
 use Rattle.script_semantics.specs.Parts.{Plays, Then}
 use Rattle.script_semantics.specs.Round.{IsRound, round_tasks}
-use Rattle.script_semantics.specs.Settling.{Drains, IsDrainRound, IsQuiet, Settles, calmed, campaign_tasks, coordinator, restart_tasks}
+use Rattle.script_semantics.specs.Settling.{Drains, IsDrainRound, IsQuiet, Settles, cleared, campaign_tasks, coordinator, restart_tasks}
 use Rattle.script_semantics.specs.Situation.{AreTurnsFor, Do, Does, IsTurnFor, Performs, Situation, Task, after_turn, after_turns, delivered, fates_after, letters_for}
 use Rattle.script_text.specs.declared.command.Command.TheVariants as command
 use Rattle.world_rounds.proofs.Delivery.{same_mails}
@@ -61,14 +61,14 @@ drains_whole members table who at start here rows on quiet =
 -- ---- what turns of replicas leave
 
 -- The same replicas run, no more is cut, clocks are as they were, and where a call was to be answered it still is.
-pub record StaysCalm (one other : Situation) : Type 0 where
+pub record StaysAsSet (one other : Situation) : Type 0 where
   pub runs : other.standing.runs ≡ one.standing.runs
   pub cuts : other.cuts ≡ one.cuts
   pub skews : other.skews ≡ one.skews
   pub fates : (who : ℕ) → one.fates who ≡ fate.Done → other.fates who ≡ fate.Done
 
-calm_then : (one middle other : Situation) → StaysCalm one middle → StaysCalm middle other → StaysCalm one other
-calm_then one middle other first second = record {
+as_set_then : (one middle other : Situation) → StaysAsSet one middle → StaysAsSet middle other → StaysAsSet one other
+as_set_then one middle other first second = record {
   runs = second.runs ∙ first.runs;
   cuts = second.cuts ∙ first.cuts;
   skews = second.skews ∙ first.skews;
@@ -87,8 +87,8 @@ step_runs : (n : ℕ) (situation : Situation) (row : Row) (who : ℕ) (cause : C
 unfolding after_row
 step_runs n situation row who cause made is = rw is refl
 
-step_calm : (n : ℕ) (situation : Situation) (row : Row) (who : ℕ) (cause : Cause) → Does situation.fates who cause row.turn → StaysCalm situation (after_turn n situation row)
-step_calm n situation row who cause does = record {
+step_as_set : (n : ℕ) (situation : Situation) (row : Row) (who : ℕ) (cause : Cause) → Does situation.fates who cause row.turn → StaysAsSet situation (after_turn n situation row)
+step_as_set n situation row who cause does = record {
   runs = step_runs n situation row who cause does.made does.is;
   cuts = refl;
   skews = refl;
@@ -99,28 +99,28 @@ step_calm n situation row who cause does = record {
 abbrev AreSteps : List Task → Type 0
 AreSteps tasks = (task : Task) → Contains tasks task → (who : ℕ) × (cause : Cause) × (task ≡ Do who cause)
 
-steps_calm : (n : ℕ) (tasks : List Task) (situation : Situation) (rows : List Row) → AreSteps tasks → AreTurnsFor n situation tasks rows → StaysCalm situation (after_turns n situation rows)
-steps_calm n [] situation rows steps turns = rw turns (record { runs = refl; cuts = refl; skews = refl; fates = λ who done. done })
-steps_calm n (task ∷ tasks) situation [] steps turns = absurd cc
-steps_calm n (task ∷ tasks) situation (row ∷ rows) steps turns =
+steps_as_set : (n : ℕ) (tasks : List Task) (situation : Situation) (rows : List Row) → AreSteps tasks → AreTurnsFor n situation tasks rows → StaysAsSet situation (after_turns n situation rows)
+steps_as_set n [] situation rows steps turns = rw turns (record { runs = refl; cuts = refl; skews = refl; fates = λ who done. done })
+steps_as_set n (task ∷ tasks) situation [] steps turns = absurd cc
+steps_as_set n (task ∷ tasks) situation (row ∷ rows) steps turns =
     let one = steps task (in_first task tasks) in
-    calm_then situation (after_turn n situation row) (after_turns n (after_turn n situation row) rows)
-    (step_calm n situation row one.0 one.1 (subst (λ task. IsTurnFor situation.fates task row.turn) one.2 turns.0))
-    (steps_calm n tasks (after_turn n situation row) rows (λ other has. steps other (in_rest task tasks other has)) turns.1)
+    as_set_then situation (after_turn n situation row) (after_turns n (after_turn n situation row) rows)
+    (step_as_set n situation row one.0 one.1 (subst (λ task. IsTurnFor situation.fates task row.turn) one.2 turns.0))
+    (steps_as_set n tasks (after_turn n situation row) rows (λ other has. steps other (in_rest task tasks other has)) turns.1)
 
-performed_calm : (n : ℕ) (tasks : List Task) (situation after : Situation) (rows : List Row) → AreSteps tasks → Performs n tasks situation rows after → StaysCalm situation after
-performed_calm n tasks situation after rows steps performs =
-    let calm = steps_calm n tasks situation rows steps performs.turns in
-    subst (λ after. StaysCalm situation after) (sym performs.is) (record { runs = calm.runs; cuts = calm.cuts; skews = calm.skews; fates = calm.fates })
+performed_as_set : (n : ℕ) (tasks : List Task) (situation after : Situation) (rows : List Row) → AreSteps tasks → Performs n tasks situation rows after → StaysAsSet situation after
+performed_as_set n tasks situation after rows steps performs =
+    let as_set = steps_as_set n tasks situation rows steps performs.turns in
+    subst (λ after. StaysAsSet situation after) (sym performs.is) (record { runs = as_set.runs; cuts = as_set.cuts; skews = as_set.skews; fates = as_set.fates })
 
-pub campaigned_calm : (n who : ℕ) (situation after : Situation) (rows : List Row) → Plays n (λ here. Do who Campaign ∷ []) situation rows after → StaysCalm situation after
-campaigned_calm n who situation after rows performs = performed_calm n (Do who Campaign ∷ []) situation after rows (one_step who Campaign) performs
+pub campaigned_as_set : (n who : ℕ) (situation after : Situation) (rows : List Row) → Plays n (λ here. Do who Campaign ∷ []) situation rows after → StaysAsSet situation after
+campaigned_as_set n who situation after rows performs = performed_as_set n (Do who Campaign ∷ []) situation after rows (one_step who Campaign) performs
 
-pub drained_calm : (n : ℕ) (table : Table) (who : ℕ) (at : ℤ) (situation after : Situation) (rows : List Row) → IsDrainRound n table who at situation rows after → StaysCalm situation after
-drained_calm n table who at situation after rows parts =
-    calm_then situation parts.middle after
-    (performed_calm n (campaign_tasks who (situation.standing.replicas who).term) situation parts.middle parts.front (campaign_steps who (situation.standing.replicas who).term) parts.one)
-    (performed_calm n (round_tasks n table.window at parts.middle) parts.middle after parts.back (λ task has. is_step n table.window at parts.middle task has) parts.two)
+pub drained_as_set : (n : ℕ) (table : Table) (who : ℕ) (at : ℤ) (situation after : Situation) (rows : List Row) → IsDrainRound n table who at situation rows after → StaysAsSet situation after
+drained_as_set n table who at situation after rows parts =
+    as_set_then situation parts.middle after
+    (performed_as_set n (campaign_tasks who (situation.standing.replicas who).term) situation parts.middle parts.front (campaign_steps who (situation.standing.replicas who).term) parts.one)
+    (performed_as_set n (round_tasks n table.window at parts.middle) parts.middle after parts.back (λ task has. is_step n table.window at parts.middle task has) parts.two)
 
 -- ---- a round of a drain
 
@@ -204,14 +204,14 @@ module _ {D : Type 0} (view : DiskView D) (table : Table) where
   -- ---- what holds after it
 
   -- all run where the part leaves who runs
-  pub run_on : (part : Situation → List Row → Situation → Type 0) (old new : World D) → ((situation : Situation) (rows : List Row) (after : Situation) → part situation rows after → StaysCalm situation after)
+  pub run_on : (part : Situation → List Row → Situation → Type 0) (old new : World D) → ((situation : Situation) (rows : List Row) (after : Situation) → part situation rows after → StaysAsSet situation after)
       → IsWorld view table old → AllRun old → new.book.members ≡ old.book.members → GoesOnBy view table part old new → AllRun new
   run_on part old new leaves world run members goes = λ k member found.
       let gone = goes world.rows world.situation world.is in
-      let calm = leaves world.situation gone.0 gone.1 gone.2 in
+      let as_set = leaves world.situation gone.0 gone.1 gone.2 in
       let below : k < length new.members.items = slice_get_within new.members.items k member found in
       let count : length new.members.items ≡ length old.members.items = gone.3.ahead.count ∙ members ∙ sym world.is.ahead.count in
-      (gone.3.ahead.each k member found).mail.runs ∙ ap (λ (runs : ℕ → Bool). runs k) calm.runs
+      (gone.3.ahead.each k member found).mail.runs ∙ ap (λ (runs : ℕ → Bool). runs k) as_set.runs
       ∙ runs_in world.rows old world.situation k world.is run (omega (arith, below, count))
 
   pub world_gone : (part : Situation → List Row → Situation → Type 0) (old new : World D) → IsWorld view table old → GoesOnBy view table part old new
@@ -249,7 +249,7 @@ module _ {D : Type 0} (view : DiskView D) (table : Table) where
           subst (λ rows. IsWorldAt view table rows new back.1) (append_assoc rows front.0 back.0) back.3,
         );
     world = world_gone (IsDrainRound now.book.members table who at) now new so_far.world goes;
-    run = run_on (IsDrainRound now.book.members table who at) now new (λ situation rows after part. drained_calm now.book.members table who at situation after rows part) so_far.world so_far.run members goes;
+    run = run_on (IsDrainRound now.book.members table who at) now new (λ situation rows after part. drained_as_set now.book.members table who at situation after rows part) so_far.world so_far.run members goes;
     members = members ∙ so_far.members;
   }
 
@@ -263,7 +263,7 @@ module _ {D : Type 0} (view : DiskView D) (table : Table) where
 
   -- ---- settling
 
-  pub settled : (at : ℤ) (who : ℕ) (old over led new : World D) → GoesOnBy view table (Plain old.book.members (restart_tasks old.book.members) calmed) old over
+  pub settled : (at : ℤ) (who : ℕ) (old over led new : World D) → GoesOnBy view table (Plain old.book.members (restart_tasks old.book.members) cleared) old over
       → over.book.members ≡ old.book.members → ((situation : Situation) → IsIn view table over situation → who ≡ coordinator over.book.members situation)
       → GoesOnBy view table (Plays over.book.members (λ here. Do who Campaign ∷ [])) over led → led.book.members ≡ over.book.members
       → GoesOnBy view table (Drains led.book.members table who at) led new → GoesOnBy view table (Settles old.book.members table at) old new
@@ -296,7 +296,7 @@ module _ {D : Type 0} (view : DiskView D) (table : Table) where
       )
 
   -- who leads was the one to lead before
-  pub leads_before : (who : ℕ) (old over : World D) → GoesOnBy view table (Plain old.book.members (restart_tasks old.book.members) calmed) old over
+  pub leads_before : (who : ℕ) (old over : World D) → GoesOnBy view table (Plain old.book.members (restart_tasks old.book.members) cleared) old over
       → over.book.members ≡ old.book.members → ((situation : Situation) → IsIn view table over situation → who ≡ coordinator over.book.members situation)
       → (situation : Situation) → IsIn view table old situation → who ≡ coordinator old.book.members situation
   leads_before who old over start same leads = λ situation (rows, is).

@@ -60,7 +60,7 @@ pub mod Halts
 pub mod Arrivals
 pub mod Restarts
 pub mod QuietLemmas
-pub mod CalmLemmas
+pub mod ClearLemmas
 pub mod DrainLemmas
 pub mod WalkLemmas
 pub mod LoopLemmas

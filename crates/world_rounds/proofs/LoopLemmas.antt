@@ -1,4 +1,4 @@
--- Worlds that drain until one leads, until it rests, and until all are level.
+-- Worlds that drain until one leads, until it rests, and until all have caught up.
 use Rattle.std.proofs.Common.{◌≡◌, ℕ, suc, ◌+◌, ◌*◌, ◌^◌, ◌<◌, ◌≤◌, true, false, List, [], ◌∷◌, ◌++◌, length, drop, map, ℤ, Some, refl, sym, ap, ◌∙◌, subst, inl, inr, arith, append_assoc, add-one, append-nil as append_nil}
 use Rattle.std.specs.List.{slice_get}
 use Rattle.std.proofs.lemmas.Bool.{cases_lt}
@@ -17,15 +17,15 @@ use Rattle.history.specs.declared.turn.Turn.TheVariants.{Did, Stopped, Restarted
 use Rattle.script_semantics.specs.Commands.{Plain}
 use Rattle.script_semantics.specs.Parts.{Plays}
 use Rattle.script_semantics.specs.Round.{round_tasks}
-use Rattle.script_semantics.specs.Settling.{Drains, IsDrainRound, IsQuiet, calmed, campaign_tasks, coordinator, restart_tasks}
+use Rattle.script_semantics.specs.Settling.{Drains, IsDrainRound, IsQuiet, cleared, campaign_tasks, coordinator, restart_tasks}
 use Rattle.script_semantics.specs.Situation.{Do, Performs, Situation, Task, after_turn, after_turns}
 use Rattle.settling.specs.Leads.{GoesDrainRound}
 use Rattle.settling.specs.Rounds.{GoesOnWithin as BookGoesOnBy, IsFaultless}
 use Rattle.settling.specs.Campaigns.{GoesCampaign}
-use Rattle.settling.specs.Rest.{IsAtRest, left_of}
-use Rattle.settling.specs.Settles.{HasRestedFor, LeadsNow, LeadsSoon}
+use Rattle.settling.specs.Idle.{IsIdleAt, left_of}
+use Rattle.settling.specs.Settles.{HasBeenIdleFor, LeadsNow, LeadsSoon}
 use Rattle.settling.proofs.SettleLeadLemmas.{campaign_faultless, first_leads, leads_nearer, leads_on, soon_faultless, soon_last, soon_nearer, soon_quiet}
-use Rattle.settling.proofs.SettleRestLemmas.{rested_leads, rested_quiet}
+use Rattle.settling.proofs.SettleIdleLemmas.{rested_leads, rested_quiet}
 use Rattle.world_law.specs.Book.{posted_as}
 use Rattle.world_law.specs.declared.letter.LetterRow.{LetterRow}
 use Rattle.world_rounds.proofs.DrainLemmas.{HasDrained, runs_in, same_count}
@@ -213,7 +213,7 @@ module _ {D : Type 0} (view : DiskView D) (table : Table) where
 
   -- fewer rounds are left after a round before which it was not at rest
   pub left_falls : (who : ℕ) (at : ℤ) (old new : World D) → IsInWindow table.window at → IsFaultlessIn view table (λ n s. LeadsNow n table who s) old
-      → AnswersFor view table (IsAtRest table who at) old false → AllRun old → AllRun new → who < length old.members.items → who < length new.members.items
+      → AnswersFor view table (IsIdleAt table who at) old false → AllRun old → AllRun new → who < length old.members.items → who < length new.members.items
       → GoesOnBy view table (IsDrainRound old.book.members table who at) old new → new.book.members ≡ old.book.members → IsBookBounded new.book
       → left_in table who new < left_in table who old
   left_falls who at old new inside have tells run run_new below below_new goes members bounded =
@@ -231,10 +231,10 @@ module _ {D : Type 0} (view : DiskView D) (table : Table) where
             (left_is (have.rows ++ gone.0) new gone.1 who two.0 gone.3 run_new two.1) falls)
       ]
 
-  -- ---- until all are level
+  -- ---- until all have caught up
 
   pub rests_now : (who : ℕ) (at : ℤ) (world : World D) → IsFaultlessIn view table (λ n s. LeadsNow n table who s) world
-      → AnswersFor view table (IsAtRest table who at) world true → IsFaultlessIn view table (λ n s. HasRestedFor 0 n table who at s) world
+      → AnswersFor view table (IsIdleAt table who at) world true → IsFaultlessIn view table (λ n s. HasBeenIdleFor 0 n table who at s) world
   rests_now who at world have tells = record {
     rows = have.rows;
     situation = have.situation;
@@ -244,18 +244,18 @@ module _ {D : Type 0} (view : DiskView D) (table : Table) where
     bounded = have.bounded;
   }
 
-  pub rests_next : (who : ℕ) (at : ℤ) (rounds : ℕ) (old new : World D) → IsInWindow table.window at → IsFaultlessIn view table (λ n s. HasRestedFor rounds n table who at s) old
+  pub rests_next : (who : ℕ) (at : ℤ) (rounds : ℕ) (old new : World D) → IsInWindow table.window at → IsFaultlessIn view table (λ n s. HasBeenIdleFor rounds n table who at s) old
       → GoesOnBy view table (IsDrainRound old.book.members table who at) old new → new.book.members ≡ old.book.members → IsBookBounded new.book
-      → IsFaultlessIn view table (λ n s. HasRestedFor (suc rounds) n table who at s) new
+      → IsFaultlessIn view table (λ n s. HasBeenIdleFor (suc rounds) n table who at s) new
   rests_next who at rounds old new inside have goes members bounded =
-      given_next who at (λ n s. HasRestedFor rounds n table who at s) (λ n s. HasRestedFor (suc rounds) n table who at s) old new
+      given_next who at (λ n s. HasBeenIdleFor rounds n table who at s) (λ n s. HasBeenIdleFor (suc rounds) n table who at s) old new
       (λ book rows situation after rests goes. (
         (book, rows, situation, rests, goes),
         soon_faultless 0 old.book.members table who at book rows situation after (inl (rested_leads rounds old.book.members table who at situation rests)) goes,
       ))
       inside have goes members bounded
 
-  pub rested_gives : (who : ℕ) (at : ℤ) (rounds : ℕ) (world : World D) → IsFaultlessIn view table (λ n s. HasRestedFor rounds n table who at s) world
+  pub rested_gives : (who : ℕ) (at : ℤ) (rounds : ℕ) (world : World D) → IsFaultlessIn view table (λ n s. HasBeenIdleFor rounds n table who at s) world
       → IsFaultlessIn view table (λ n s. LeadsNow n table who s) world
   rested_gives who at rounds world have = record {
     rows = have.rows;
@@ -266,7 +266,7 @@ module _ {D : Type 0} (view : DiskView D) (table : Table) where
     bounded = have.bounded;
   }
 
-  pub quiet_at_last : (who : ℕ) (at : ℤ) (world : World D) → IsFaultlessIn view table (λ n s. HasRestedFor 5 n table who at s) world
+  pub quiet_at_last : (who : ℕ) (at : ℤ) (world : World D) → IsFaultlessIn view table (λ n s. HasBeenIdleFor 5 n table who at s) world
       → AnswersFor view table (IsQuiet world.book.members table who at) world false → ⊥
   quiet_at_last who at world have tells =
       let no : false ≡ true = (tells have.rows have.situation have.is).1 (rested_quiet world.book.members table who at have.situation have.given) in absurd cc
@@ -274,7 +274,7 @@ module _ {D : Type 0} (view : DiskView D) (table : Table) where
   -- ---- the first campaign
 
   pub lead_given : (who : ℕ) (at : ℤ) (old over led : World D) → IsInWindow table.window at → 1 ≤ old.book.members → IsWorld view table old
-      → GoesOnBy view table (Plain old.book.members (restart_tasks old.book.members) calmed) old over → AllRun over → over.book.members ≡ old.book.members
+      → GoesOnBy view table (Plain old.book.members (restart_tasks old.book.members) cleared) old over → AllRun over → over.book.members ≡ old.book.members
       → ((situation : Situation) → IsIn view table over situation → who ≡ coordinator over.book.members situation)
       → GoesOnBy view table (Plays over.book.members (λ here. Do who Campaign ∷ [])) over led → led.book.members ≡ over.book.members → IsBookBounded led.book
       → IsFaultlessIn view table (λ n s. LeadsSoon 4 n table who s) led
@@ -282,7 +282,7 @@ module _ {D : Type 0} (view : DiskView D) (table : Table) where
       let one = start world.rows world.situation world.is in
       let two = campaign (world.rows ++ one.0) one.1 one.3 in
       let n = over.book.members in
-      let is : one.1 ≡ calmed one.2.middle = one.2.two.is in
+      let is : one.1 ≡ cleared one.2.middle = one.2.two.is in
       let count : length over.members.items ≡ n = one.3.ahead.count in
       let faultless : IsFaultless n one.1 = record {
         runs = λ k below. runs_in view table (world.rows ++ one.0) over one.1 k one.3 run (omega (arith, below, count));
@@ -318,7 +318,7 @@ module _ {D : Type 0} (view : DiskView D) (table : Table) where
         subst (λ rows. IsWorldAt view table rows new two.1) (append_assoc rows one.0 two.0) two.3,
       )
 
-  pub not_quiet : (who : ℕ) (at : ℤ) (world : World D) → AnswersFor view table (IsAtRest table who at) world false
+  pub not_quiet : (who : ℕ) (at : ℤ) (world : World D) → AnswersFor view table (IsIdleAt table who at) world false
       → AnswersFor view table (IsQuiet world.book.members table who at) world false
   not_quiet who at world tells = tells_no_quiet view table world who at tells
 
@@ -340,16 +340,16 @@ module _ {D : Type 0} (view : DiskView D) (table : Table) where
       let same = same_count view table old now was drained.world drained.members in
       omega (arith, same, below)
 
-  pub level_next : (who : ℕ) (at : ℤ) (rounds : ℕ) (now new : World D) → IsInWindow table.window at → rounds ≤ 5 → IsFaultlessIn view table (λ n s. HasRestedFor rounds n table who at s) now
+  pub caught_up_next : (who : ℕ) (at : ℤ) (rounds : ℕ) (now new : World D) → IsInWindow table.window at → rounds ≤ 5 → IsFaultlessIn view table (λ n s. HasBeenIdleFor rounds n table who at s) now
       → AnswersFor view table (IsQuiet now.book.members table who at) now false
       → GoesOnBy view table (IsDrainRound now.book.members table who at) now new → new.book.members ≡ now.book.members → IsBookBounded new.book
-      → (rounds + 1 ≤ 5) × IsFaultlessIn view table (λ n s. HasRestedFor (rounds + 1) n table who at s) new
-  level_next who at rounds now new inside few have tells goes members bounded = elim (cases_lt rounds 5) [
+      → (rounds + 1 ≤ 5) × IsFaultlessIn view table (λ n s. HasBeenIdleFor (rounds + 1) n table who at s) new
+  caught_up_next who at rounds now new inside few have tells goes members bounded = elim (cases_lt rounds 5) [
     | inl less ↦ (
       omega arith,
-      subst (λ k. IsFaultlessIn view table (λ n s. HasRestedFor k n table who at s) new) (sym (add-one rounds)) (rests_next who at rounds now new inside have goes members bounded),
+      subst (λ k. IsFaultlessIn view table (λ n s. HasBeenIdleFor k n table who at s) new) (sym (add-one rounds)) (rests_next who at rounds now new inside have goes members bounded),
     )
     | inr last ↦
         let five : rounds ≡ 5 = omega arith in
-        absurd (quiet_at_last who at now (subst (λ k. IsFaultlessIn view table (λ n s. HasRestedFor k n table who at s) now) five have) tells)
+        absurd (quiet_at_last who at now (subst (λ k. IsFaultlessIn view table (λ n s. HasBeenIdleFor k n table who at s) now) five have) tells)
   ]

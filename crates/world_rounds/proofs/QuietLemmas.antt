@@ -24,7 +24,7 @@ use Rattle.world_law.specs.Book.{standing_behind}
 use Rattle.world_steps.specs.Steps.{IsNodeAhead}
 use Rattle.world_rounds.proofs.StepsAt.{cases_number}
 use Rattle.world_rounds.proofs.Worlds.{some_same}
-use Rattle.settling.specs.Rest.{IsAtRest}
+use Rattle.settling.specs.Idle.{IsIdleAt}
 use Rattle.world_rounds.specs.Quiet.{AllRun, AnswersFor}
 use Rattle.world_rounds.specs.World.{IsWorld, IsWorldAt}
 use Rattle.world_rounds.specs.declared.member.Member.{Member}
@@ -125,7 +125,7 @@ module _ {D : Type 0} (view : DiskView D) (table : Table) where
   -- it is at rest
   pub tells_rest : (world : World D) (who : ℕ) (at : ℤ) (member : Member D) (answer : Bool) → AllRun world → slice_get world.members.items who ≡ Some member
       → IsTrue answer ↔ ((member.mail.waits ≡ None) × IsFreeTerm (prefix_of (replica_of member.node).state) (replica_of member.node).state.term × AsksNothing table at (replica_of member.node).state)
-      → AnswersFor view table (IsAtRest table who at) world answer
+      → AnswersFor view table (IsIdleAt table who at) world answer
   tells_rest world who at member answer run there tells = λ rows situation is.
       let state = node_state rows world situation who member is there (run who member there) in
       let waits = node_waits rows world situation who member is there in (
@@ -143,34 +143,34 @@ module _ {D : Type 0} (view : DiskView D) (table : Table) where
         ),
       )
 
-  -- all are level with it
-  abbrev pub AreLevel : List (Member D) → ℕ → Type 0
-  AreLevel members prefix = (who : ℕ) (member : Member D) → slice_get members who ≡ Some member → prefix_of (replica_of member.node).state ≡ prefix
+  -- all have caught up with it
+  abbrev pub HaveCaughtUp : List (Member D) → ℕ → Type 0
+  HaveCaughtUp members prefix = (who : ℕ) (member : Member D) → slice_get members who ≡ Some member → prefix_of (replica_of member.node).state ≡ prefix
 
-  -- it is quiet where it is at rest and all are level
+  -- it is quiet where it is at rest and all have caught up
   pub tells_quiet : (world : World D) (who : ℕ) (at : ℤ) (member : Member D) (answer : Bool) → IsWorld view table world → AllRun world → slice_get world.members.items who ≡ Some member
-      → AnswersFor view table (IsAtRest table who at) world true → IsTrue answer ↔ AreLevel world.members.items (prefix_of (replica_of member.node).state)
+      → AnswersFor view table (IsIdleAt table who at) world true → IsTrue answer ↔ HaveCaughtUp world.members.items (prefix_of (replica_of member.node).state)
       → AnswersFor view table (IsQuiet world.book.members table who at) world answer
-  tells_quiet world who at member answer some run there rest level = λ rows situation is.
+  tells_quiet world who at member answer some run there rest caught_up = λ rows situation is.
       let state = node_state rows world situation who member is there (run who member there) in
       let count : length world.members.items ≡ world.book.members = is.ahead.count in (
         λ holds.
-            let rest : IsAtRest table who at situation = (rest rows situation is).0 refl in
+            let rest : IsIdleAt table who at situation = (rest rows situation is).0 refl in
             record {
               free = rest.free;
               answered = rest.answered;
               rests = rest.rests;
-              level = λ other below.
+              caught_up = λ other below.
                   let found = found_at world.members.items other (omega (arith, below, count)) in
                   ap prefix_of (sym (node_state rows world situation other found.0 is found.1 (run other found.0 found.1)))
-                  ∙ (level.0 holds other found.0 found.1 ∙ ap prefix_of state);
+                  ∙ (caught_up.0 holds other found.0 found.1 ∙ ap prefix_of state);
             },
-        λ quiet. level.1 (λ other found there.
+        λ quiet. caught_up.1 (λ other found there.
             let below : other < length world.members.items = slice_get_within world.members.items other found there in
-            ap prefix_of (node_state rows world situation other found is there (run other found there)) ∙ (quiet.level other (omega (arith, below, count)) ∙ ap prefix_of (sym state))),
+            ap prefix_of (node_state rows world situation other found is there (run other found there)) ∙ (quiet.caught_up other (omega (arith, below, count)) ∙ ap prefix_of (sym state))),
       )
 
-  pub tells_no_quiet : (world : World D) (who : ℕ) (at : ℤ) → AnswersFor view table (IsAtRest table who at) world false
+  pub tells_no_quiet : (world : World D) (who : ℕ) (at : ℤ) → AnswersFor view table (IsIdleAt table who at) world false
       → AnswersFor view table (IsQuiet world.book.members table who at) world false
   tells_no_quiet world who at rest = λ rows situation is. (
     λ holds. absurd (let no : false ≡ true = holds in cc),

@@ -137,7 +137,7 @@ module _ {D : Type 0} (view : DiskView D) (table : Table) where
           → HasJoinedAlone table rows world.book new.book can.row → area_of (store_of next.node) ≡ area_by (bases_behind table (rows ++ can.row ∷ []) new.book who)
       area rows situation is can joined =
           let node = (node_stopped rows world situation who member is there runs).1 in
-          again.area ∙ node.at_rest.settled.selects ∙ node.disk.area
+          again.area ∙ node.at_rest.rests.selects ∙ node.disk.area
           ∙ ap area_by (sym (ap (λ (counts : ℕ → ℕ). counts who) (bases_same table rows can.row world.book new.book joined.members
           (λ changes counts. ap (λ (turn : Turn). bases_kept turn changes counts) can.alone.is.turn_is))))
 

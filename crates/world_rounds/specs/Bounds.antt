@@ -6,7 +6,7 @@ use Rattle.replica_node.specs.Node.{replica_of}
 use Rattle.history.specs.Book.{Row}
 use Rattle.script_semantics.specs.Situation.{Situation}
 use Rattle.settling.specs.Rounds.{IsFaultless}
-use Rattle.settling.specs.Rest.{left_of}
+use Rattle.settling.specs.Idle.{left_of}
 use Rattle.world_law.specs.Book.{BookState}
 use Rattle.world_law.specs.declared.letter.LetterRow.{LetterRow}
 use Rattle.world_rounds.specs.World.{IsWorldAt}
@@ -31,12 +31,12 @@ pub record IsFaultlessIn {D : Type 0} (view : DiskView D) (table : Table) (holds
   pub given : holds world.book.members situation
   pub bounded : IsBookBounded world.book
 
--- the rounds that are left to a replica until it is at rest, at most
+-- the rounds that are left to a replica until it is idle, at most
 abbrev pub left_to : {D : Type 0} → Table → Option (Member D) → ℕ
 left_to table None = 0
 left_to table (Some member) =
     left_of table.window.until.0 (replica_of member.node).machine.rows member.mail.waits (replica_of member.node).state
 
--- the rounds that are left to a replica of the world, by its number, until it is at rest, at most
+-- the rounds that are left to a replica of the world, by its number, until it is idle, at most
 abbrev pub left_in : {D : Type 0} → Table → ℕ → World D → ℕ
 left_in table who world = left_to table (slice_get world.members.items who)

@@ -1,6 +1,6 @@
 pub mod Alone
 pub mod Bounds
-pub mod Calm
+pub mod Cleared
 pub mod Campaigns
 pub mod Commands
 pub mod Drains

@@ -9,12 +9,12 @@
 //! memory is the only fault, over disks that are honest, empty and reliable at first (`IsFreshDisk`;
 //! `a_new_disk_in_memory_is_fresh`); after it the book is legal (`legal`). That lanes run at the same time is no
 //! promise. `member`, `steps` and `turns` have a replica's part of a round, `one_by_one` rounds in which a disk is
-//! armed, `calm`, `settle` and `walking` what leads to quiet, `parts` and `rooms` a world in parts.
+//! armed, `clear`, `settle` and `walking` what leads to quiet, `parts` and `rooms` a world in parts.
 #![tactic(auto)]
 
 mod alone;
 mod bounds;
-mod calm;
+mod clear;
 mod commands;
 mod lanes;
 mod laws;

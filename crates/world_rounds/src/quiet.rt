@@ -6,7 +6,7 @@ ghost use Rattle.replica_core.specs.Replica.{ReplicaState};
 ghost use Rattle.replica_core.specs.Step.{IsOfTable};
 ghost use Rattle.replica_node.specs.Node.{replica_of};
 ghost use Rattle.script_semantics.specs.Settling.{AsksNothing, IsFreeTerm, IsQuiet};
-ghost use Rattle.settling.specs.Rest.{IsAtRest};
+ghost use Rattle.settling.specs.Idle.{IsIdleAt};
 ghost use Rattle.world_rounds.specs.Quiet.{AllRun, AnswersFor};
 ghost use Rattle.step_spec.specs.May.{IsFollower};
 ghost use Rattle.world_rounds.specs.World.{IsWorld, book_of};
@@ -58,7 +58,7 @@ fn asks_nothing(replica: &Replica, table: &JobTable, at: Minute) -> bool
 }
 
 // Whether all replicas have learned just the entries below this slot.
-fn are_level<D: Disk>(members: &[Member<D>], prefix: u64) -> bool
+fn are_caught_up<D: Disk>(members: &[Member<D>], prefix: u64) -> bool
     ensures { IsTrue result ↔ ((who : ℕ) (member : Seat D) → slice_get members.now who ≡ Some member → prefix_of (replica_of member.node).state ≡ prefix) }
 {
     'members: for member in members {
@@ -92,12 +92,12 @@ impl<D: Disk> World<D> {
     }
 
     // Whether a replica leads and has nothing left to do at an instant.
-    pub(crate) fn rests(&self, table: &JobTable, who: u8, at: Minute) -> bool
+    pub(crate) fn is_idle(&self, table: &JobTable, who: u8, at: Minute) -> bool
         requires world { IsWorld D.view table.now self.now }
         requires run { AllRun self.now }
         requires member { who < length self.now.members.items }
         requires inside { IsInWindow table.now.window at.0 }
-        ensures { AnswersFor D.view table.now (IsAtRest table.now who at.0) self.now result }
+        ensures { AnswersFor D.view table.now (IsIdleAt table.now who at.0) self.now result }
     {
         let member = &self.members[who as usize];
         if member.mail.waits.is_some() {
@@ -119,6 +119,6 @@ impl<D: Disk> World<D> {
         ensures { AnswersFor D.view table.now (IsQuiet (book_of self.now).members table.now who at.0) self.now result }
     {
         let prefix = self.members[who as usize].prefix();
-        self.rests(table, who, at) && are_level(&self.members, prefix)
+        self.is_idle(table, who, at) && are_caught_up(&self.members, prefix)
     }
 }

@@ -5,7 +5,7 @@ ghost use Rattle.history.specs.declared.turn.Cause.TheVariants.{Campaign};
 ghost use Rattle.script_semantics.specs.Parts.{Plays};
 ghost use Rattle.script_semantics.specs.Situation.{Do, Situation};
 ghost use Rattle.script_semantics.specs.Settling.{Drains, IsDrainRound, Settles, coordinator};
-ghost use Rattle.settling.specs.Settles.{HasRestedFor, LeadsNow, LeadsSoon};
+ghost use Rattle.settling.specs.Settles.{HasBeenIdleFor, LeadsNow, LeadsSoon};
 ghost use Rattle.world_law.specs.Book.{IsLegalBook};
 ghost use Rattle.world_rounds.specs.Bounds.{IsBookBounded, IsFaultlessIn};
 ghost use Rattle.world_rounds.specs.Drains.{DrainsOn};
@@ -88,32 +88,32 @@ impl<D: Disk> World<D> {
         Ok(())
     }
 
-    // Rounds of a drain until the one that leads is at rest.
-    fn drain_until_rest(&mut self, table: &JobTable, who: u8, at: Minute) -> Result<(), OutOfMemory>
+    // Rounds of a drain until the one that leads is idle.
+    fn drain_until_idle(&mut self, table: &JobTable, who: u8, at: Minute) -> Result<(), OutOfMemory>
         requires given { IsFaultlessIn D.view table.now (λ members situation. LeadsNow members table.now who situation) self.old }
         requires run { AllRun self.old }
         requires member { who < length self.old.members.items }
         requires inside { IsInWindow table.now.window at.0 }
         ensures goes { OnOk result (GoesOnBy D.view table.now (DrainsOn (book_of self.old).members table.now who at.0) self.old self.new) }
-        ensures given { OnOk result (IsFaultlessIn D.view table.now (λ members situation. HasRestedFor 0 members table.now who at.0 situation) self.new) }
+        ensures given { OnOk result (IsFaultlessIn D.view table.now (λ members situation. HasBeenIdleFor 0 members table.now who at.0 situation) self.new) }
         ensures run { OnOk result (AllRun self.new) }
         ensures members { OnOk result ((book_of self.new).members ≡ (book_of self.old).members) }
         ensures legal { OnErr result (IsLegalBook table.now (book_of self.new)) }
     {
-        'rounds: while !self.rests(table, who, at) {
+        'rounds: while !self.is_idle(table, who, at) {
             self.drain_round(table, who, at)?;
         }
         Ok(())
     }
 
-    // Rounds of a drain until all are level with the one that leads and is at rest: five at most.
-    fn drain_until_level(
+    // Rounds of a drain until all have caught up with the one that leads and is idle: five at most.
+    fn drain_until_caught_up(
         &mut self,
         table: &JobTable,
         who: u8,
         at: Minute,
     ) -> Result<(), OutOfMemory>
-        requires given { IsFaultlessIn D.view table.now (λ members situation. HasRestedFor 0 members table.now who at.0 situation) self.old }
+        requires given { IsFaultlessIn D.view table.now (λ members situation. HasBeenIdleFor 0 members table.now who at.0 situation) self.old }
         requires run { AllRun self.old }
         requires member { who < length self.old.members.items }
         requires inside { IsInWindow table.now.window at.0 }
@@ -144,8 +144,8 @@ impl<D: Disk> World<D> {
         ensures members { OnOk result ((book_of self.new).members ≡ (book_of self.old).members) }
         ensures legal { OnErr result (IsLegalBook table.now (book_of self.new)) }
     {
-        self.drain_until_rest(table, who, at)?;
-        self.drain_until_level(table, who, at)
+        self.drain_until_idle(table, who, at)?;
+        self.drain_until_caught_up(table, who, at)
     }
 
     // Settles, and tells which replica leads.

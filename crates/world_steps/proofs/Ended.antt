@@ -22,8 +22,8 @@ module _ {D : Type 0} (view : DiskView D) (table : Table) where
   -- the files of a node at rest stand for what its replica keeps
   pub files_of : (node : Node D) (kept : Durable) → IsNodeAtRest view table node → (replica_of node).state.kept ≡ kept → FilesStand (length table.jobs) kept (view.seen (disk_of node))
   files_of node kept rest is =
-      stands_in (length table.jobs) kept (view.seen (disk_of node)) (area_of (store_of node)) (records_of (store_of node)) rest.settled.selects
-      (has_at_rest (file_of (area_of (store_of node)) (view.seen (disk_of node))) (records_of (store_of node)) rest.settled.gates.at_rest)
+      stands_in (length table.jobs) kept (view.seen (disk_of node)) (area_of (store_of node)) (records_of (store_of node)) rest.rests.selects
+      (has_at_rest (file_of (area_of (store_of node)) (view.seen (disk_of node))) (records_of (store_of node)) rest.rests.gates.at_rest)
       (subst (λ (kept : Durable). BodiesStand (length table.jobs) (records_of (store_of node)) kept) is
       (subst (λ (jobs : ℕ). BodiesStand jobs (records_of (store_of node)) (replica_of node).state.kept) rest.jobs rest.keeps))
 

@@ -1,9 +1,9 @@
-use Rattle.replica_store.proofs.CleanLemmas.{attached_clean, ready_clean, settled_ready, armed_clean, disarmed_clean, revived_clean}
+use Rattle.replica_store.proofs.CleanLemmas.{attached_clean, ready_clean, rests_ready, armed_clean, disarmed_clean, revived_clean}
 use Rattle.replica_store.proofs.laws.a_disk_is_ready_for_a_save.Goals as goal
 
 pub returns-clause-ready : goal.returns-clause-ready
-returns-clause-ready g c disk store told settled is runs chooser clean =
-    settled_ready g.D.Disk.view disk store told settled (g.met.D.Disk.done_is_seen disk told is) runs chooser clean
+returns-clause-ready g c disk store told rests is runs chooser clean =
+    rests_ready g.D.Disk.view disk store told rests (g.met.D.Disk.done_is_seen disk told is) runs chooser clean
 
 pub returns-clause-attached : goal.returns-clause-attached
 returns-clause-attached g c = attached_clean

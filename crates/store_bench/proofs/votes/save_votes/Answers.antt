@@ -20,6 +20,6 @@ unfolding after_delta
 loop-slot-preserved c =
     let takes = c.loop-slot.invariant.takes in
     record {
-      settled = c.in_ok-save.ensures.settled;
+      rests = c.in_ok-save.ensures.rests;
       takes = (_, (c.in_ok-save.ensures.keeps takes.0 takes.1.0, (omega arith, takes.1.1.1)));
     }

@@ -4,8 +4,8 @@ use Rattle.synchronous_rounds.proofs.MailLemmas.{accepted_next}
 use Rattle.synchronous_rounds.proofs.leader.a_flight_lands.Goals as goal
 
 pub returns-clause-accepted : goal.returns-clause-accepted
-returns-clause-accepted c = λ proposal flight calm now advice answers under asked.
-    accepted_next proposal.self.members proposal.self.me now advice answers (asked_vote proposal) calm under.ruled asked
+returns-clause-accepted c = λ proposal flight cluster now advice answers under asked.
+    accepted_next proposal.self.members proposal.self.me now advice answers (asked_vote proposal) cluster under.led_alone asked
 
 pub returns-clause-first : goal.returns-clause-first
 returns-clause-first c = first_round

@@ -1,4 +1,4 @@
-use Rattle.synchronous_rounds.proofs.SomeCalm.{some_answer, some_answered, some_at_tick, some_leads_on}
+use Rattle.synchronous_rounds.proofs.SomeCluster.{some_answer, some_answered, some_at_tick, some_leads_on}
 use Rattle.synchronous_rounds.proofs.leader.a_leader_may_be_free.Goals as goal
 
 pub returns-clause-alone : goal.returns-clause-alone

@@ -1,4 +1,4 @@
-use Rattle.synchronous_rounds.proofs.SomeCalm.{some_accepted, some_asked}
+use Rattle.synchronous_rounds.proofs.SomeCluster.{some_accepted, some_asked}
 use Rattle.synchronous_rounds.proofs.leader.a_proposal_may_be_under_way.Goals as goal
 
 pub returns-clause-asked : goal.returns-clause-asked

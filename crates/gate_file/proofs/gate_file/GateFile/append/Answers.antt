@@ -84,8 +84,8 @@ returns-in_err-write_synced-2-clause-memory g c memory =
       durable = c.write_synced-2.ensures.still_durable is;
     }
 
-pub returns-clause-settled : goal.returns-clause-settled
-returns-clause-settled g c =
+pub returns-clause-rests : goal.returns-clause-rests
+returns-clause-rests g c =
     let gates = c.args.self.now in
     let place : c.len-2.result * 57 ≡ 57 * length (bodies_of gates) = omega (arith, c.len-2.ensures, c.reserve.ensures.len, c.args.self.now.bodies.ok.0) in
     let holds : HoldsPiece (57 * length (bodies_of gates) + 1) (c.args.body.now ++ 0 ∷ []) (file_of (file_no gates) (g.D.Disk.view.seen c.args.disk.now)) (file_of (file_no gates) (g.D.Disk.view.seen c.write_synced.new.disk)) =

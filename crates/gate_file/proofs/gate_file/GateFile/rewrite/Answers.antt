@@ -58,8 +58,8 @@ returns-clause-images g c honest =
     let still-2 = c.write_at.ensures.honest.1 still in
     next_leaves g.D.Disk.view file old c.write_at.new.self c.sync.new.self write_run (c.sync.ensures.time still-2) (in_file_still file (g.D.Disk.view.may_leave old) (g.D.Disk.view.may_leave c.write_at.new.self) (g.D.Disk.view.may_leave c.sync.new.self) Any write_all (c.sync.ensures.images still-2))
 
-pub returns-clause-settled : goal.returns-clause-settled
-returns-clause-settled g c =
+pub returns-clause-rests : goal.returns-clause-rests
+returns-clause-rests g c =
     let file = c.args.file in
     let bytes = c.in_ok-bytes.bytes.items in
     let alone = written_alone c.deref-2.result.now (file_of file (g.D.Disk.view.seen c.args.disk.now)) (file_of file (g.D.Disk.view.seen c.cut.new.self)) (file_of file (g.D.Disk.view.seen c.write_at.new.self)) c.in_ok-cut.ensures.cut.step c.in_ok-write_at.ensures.written.step in

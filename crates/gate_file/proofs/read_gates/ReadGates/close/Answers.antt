@@ -41,8 +41,8 @@ returns-clause-images g c bodies pending honest staged =
     close_leaves g.D.Disk.view file pending bodies old old c.write_synced.new.disk (g.D.Disk.view.seen old) found (λ start image le left. g.met.D.Disk.counts_now old start image honest le left) (g.met.D.Disk.seen_is_left old honest) c.requires.has not_closed first
     (subst (λ at. LeavesOnly g.D.Disk.view old c.write_synced.new.disk (InFileOnly file (g.D.Disk.view.may_leave old) (Torn at 1 now))) place (c.write_synced.ensures.images honest))
 
-pub returns-clause-settled : goal.returns-clause-settled
-returns-clause-settled g c =
+pub returns-clause-rests : goal.returns-clause-rests
+returns-clause-rests g c =
     let gates = c.args.self in
     let file = file_read gates in
     let old = c.args.disk.now in

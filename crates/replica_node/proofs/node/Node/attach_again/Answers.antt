@@ -47,7 +47,7 @@ returns-clause-at_rest g c =
       few = rw c.in_ok-self.ensures.identity c.requires.few;
       of_table = c.in_ok-self.ensures.of_table;
       coherent = subst (λ (identity : Identity). IsCoherent identity replica.state) (sym c.in_ok-self.ensures.identity) first;
-      settled = c.in_ok-store.ensures.settled;
+      rests = c.in_ok-store.ensures.rests;
       jobs = c.in_ok-store.ensures.jobs ∙ c.jobs.ensures.count;
       keeps = subst (λ (found : Durable). StoreKeeps store found) (sym (ap (λ (state : State). state.kept) c.in_ok-self.ensures.state)) keeps;
     }

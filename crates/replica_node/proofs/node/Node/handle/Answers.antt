@@ -54,7 +54,7 @@ returns-in-Ok-clause-at_rest g c =
     let alike : IsSameReplica kept.replica old.replica = subst (λ (now : ReplicaState). IsSameReplica now old.replica) (sym c.keep.ensures.replica) c.plan.ensures.alike in
     let takes = c.complete.ensures acts (plans_alike old.replica kept.replica acts planned alike plans.plans) in
     at_rest_after g.D.Disk.view table c.args.input old (record { replica = c.complete.new.self; store = kept.store; disk = kept.disk; running = kept.running; stopped = kept.stopped }) kept.replica planned (option_copied c.delta.result)
-    c.complete.result c.requires.at_rest alike plans takes told c.in-Ok.ensures.runs c.keep.ensures.jobs c.in-Ok.ensures.settled (rw c.keep.ensures.replica c.in-Ok.ensures.keeps)
+    c.complete.result c.requires.at_rest alike plans takes told c.in-Ok.ensures.runs c.keep.ensures.jobs c.in-Ok.ensures.rests (rw c.keep.ensures.replica c.in-Ok.ensures.keeps)
 
 pub returns-in-Ok-clause-safe : goal.returns-in-Ok-clause-safe
 returns-in-Ok-clause-safe g c honest image left =

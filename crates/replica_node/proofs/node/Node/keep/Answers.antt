@@ -11,7 +11,7 @@ use Rattle.replica_store.specs.Made.{save_calls}
 use Rattle.replica_store.specs.Store.{area_of, jobs_of_store, records_of}
 use Rattle.replica_store.specs.declared.fault.StoreFault.TheVariants as Store
 use Rattle.replica_store.proofs.FileLemmas.{bodies_stand_for_one}
-use Rattle.replica_store.proofs.SaveLemmas.{settled_recoverable}
+use Rattle.replica_store.proofs.SaveLemmas.{rests_recoverable}
 use Rattle.replica_node.specs.Faults.{of_disk_answer}
 use Rattle.replica_node.proofs.KeptLemmas.{tells_by_arm, tells_saved}
 use Rattle.replica_node.proofs.ReliableLemmas.{reliable_done, reliable_never, unfailing_done, unfailing_saved}
@@ -21,7 +21,7 @@ use Rattle.replica_node.proofs.node.Node.keep.Goals as goal
 pub returns-in_default-clause-recoverable : goal.returns-in_default-clause-recoverable
 returns-in_default-clause-recoverable g c honest =
     let node = c.args.self.now in
-    rw c.in_default.is (settled_recoverable g.D.Disk.view node.disk node.store c.requires.settled node.replica.state.kept c.requires.keeps honest)
+    rw c.in_default.is (rests_recoverable g.D.Disk.view node.disk node.store c.requires.rests node.replica.state.kept c.requires.keeps honest)
 
 pub save-requires-clause-follows : goal.save-requires-clause-follows
 save-requires-clause-follows g c kept keeps =
@@ -68,7 +68,7 @@ pub returns-in-Ok-clause-clean : goal.returns-in-Ok-clause-clean
 returns-in-Ok-clause-clean g c clean =
     let node = c.args.self.now in
     let own = c.requires.keeps in
-    tells_saved g.D.Disk.view node.disk node.store node.replica.state.kept own.0 c.in-Some.delta.now c.requires.settled c.save.new.self (g.D.Disk.view.told node.disk) (g.D.Disk.view.told c.save.new.disk)
+    tells_saved g.D.Disk.view node.disk node.store node.replica.state.kept own.0 c.in-Some.delta.now c.requires.rests c.save.new.self (g.D.Disk.view.told node.disk) (g.D.Disk.view.told c.save.new.disk)
     (g.met.D.Disk.done_is_seen node.disk) clean c.in-Ok.ensures.area (c.in-Ok.ensures.told node.replica.state.kept own.0 own.1)
 
 pub returns-in-Err-Stopped-clause-kept_by_arm : goal.returns-in-Err-Stopped-clause-kept_by_arm
@@ -80,7 +80,7 @@ returns-in-Err-Stopped-clause-kept_by_arm g c change arm is stopped clean armed 
     let same : c.in-Some.delta.now ≡ change = same_Some c.in-Some.delta.now change (sym here ∙ is) in
     let jobs = jobs_of_store node.store in
     subst (λ (d : Delta). LeavesByArm jobs (area_of node.store) kept d arm (g.D.Disk.view.told c.save.new.disk)) same
-    (tells_by_arm g.D.Disk.view node.disk node.store kept own.0 c.in-Some.delta.now c.requires.settled arm (g.D.Disk.view.told node.disk) (g.D.Disk.view.told c.save.new.disk)
+    (tells_by_arm g.D.Disk.view node.disk node.store kept own.0 c.in-Some.delta.now c.requires.rests arm (g.D.Disk.view.told node.disk) (g.D.Disk.view.told c.save.new.disk)
     (g.met.D.Disk.done_is_seen node.disk) clean armed own.1 (c.requires.follows c.in-Some.delta.now here) c.in-Err-Stopped.field-0 c.in-Err-Stopped.field-0-is
     (c.in-Err-Stopped.ensures.told kept own.0 own.1) c.save.ensures.spelled (λ slot rows base. c.in-Err-Stopped.ensures.base_spelled kept own.0 slot rows own.1 base (ap Err c.in-Err-Stopped.field-0-is)))
 

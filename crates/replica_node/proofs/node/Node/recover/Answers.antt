@@ -24,7 +24,7 @@ returns-in-Ok-clause-at_rest g c =
       few = rw found.identity c.requires.few;
       of_table = found.of_table;
       coherent = subst (λ (identity : Identity). IsCoherent identity replica.state) (sym found.identity) first;
-      settled = found.settled;
+      rests = found.rests;
       jobs = found.jobs;
       keeps = found.keeps;
     }

@@ -41,7 +41,7 @@ returns-in-Ok-clause-recoverable g c honest =
     (c.take_kept-change.ensures.answer stop.change planned) (c.take_kept-change.ensures.kept stop.change planned) in
     let still = c.attach_stopped.ensures.answer.honest_still.1 honest in
     let here : IsRecoverable jobs now now (g.D.Disk.view.may_leave disk) =
-    found_recoverable g.D.Disk.view disk store jobs found now c.in-Ok.ensures.settled c.in-Ok.ensures.keeps (c.in-Ok.ensures.jobs ∙ count) facts.same still in
+    found_recoverable g.D.Disk.view disk store jobs found now c.in-Ok.ensures.rests c.in-Ok.ensures.keeps (c.in-Ok.ensures.jobs ∙ count) facts.same still in
     here
 
 pub returns-in-Ok-clause-stand : goal.returns-in-Ok-clause-stand
@@ -62,7 +62,7 @@ returns-in-Ok-clause-stand g c honest =
     (c.take_kept-change.ensures.answer stop.change planned) (c.take_kept-change.ensures.kept stop.change planned) in
     let still = c.attach_stopped.ensures.answer.honest_still.1 honest in
     let here : IsRecoverable jobs now now (g.D.Disk.view.may_leave disk) =
-    found_recoverable g.D.Disk.view disk store jobs found now c.in-Ok.ensures.settled c.in-Ok.ensures.keeps (c.in-Ok.ensures.jobs ∙ count) facts.same still in
+    found_recoverable g.D.Disk.view disk store jobs found now c.in-Ok.ensures.rests c.in-Ok.ensures.keeps (c.in-Ok.ensures.jobs ∙ count) facts.same still in
     found_stands jobs now (g.D.Disk.view.may_leave disk) (g.D.Disk.view.seen disk) here (g.met.D.Disk.seen_is_left disk still)
 
 pub returns-in-Ok-clause-image : goal.returns-in-Ok-clause-image
@@ -83,7 +83,7 @@ returns-in-Ok-clause-image g c told honest is =
     (c.take_kept-change.ensures.answer stop.change planned) (c.take_kept-change.ensures.kept stop.change planned) in
     let still = c.attach_stopped.ensures.answer.honest_still.1 honest in
     let here : IsRecoverable jobs now now (g.D.Disk.view.may_leave disk) =
-    found_recoverable g.D.Disk.view disk store jobs found now c.in-Ok.ensures.settled c.in-Ok.ensures.keeps (c.in-Ok.ensures.jobs ∙ count) facts.same still in
+    found_recoverable g.D.Disk.view disk store jobs found now c.in-Ok.ensures.rests c.in-Ok.ensures.keeps (c.in-Ok.ensures.jobs ∙ count) facts.same still in
     subst (λ (k : Durable). FilesStand jobs k (image_left told)) (sym facts.same) (subst (λ (n : ℕ). FilesStand n found (image_left told)) count (c.in-Ok.ensures.image told is))
 
 pub returns-in-Ok-clause-answer_by_arm : goal.returns-in-Ok-clause-answer_by_arm
@@ -108,7 +108,7 @@ returns-in-Ok-clause-lost_by_arm g c stop area arm honest left anew loses =
     lost_answer area c.args.self.replica.state.kept stop.change arm c.take_kept-change.result (returns-in-Ok-clause-answer_by_arm g c stop area arm honest left) (stop.has_planned.alters anew) loses
 
 pub returns-in-Ok-clause-area : goal.returns-in-Ok-clause-area
-returns-in-Ok-clause-area g c told is = c.in-Ok.ensures.settled.selects ∙ c.in-Ok.ensures.area told is
+returns-in-Ok-clause-area g c told is = c.in-Ok.ensures.rests.selects ∙ c.in-Ok.ensures.area told is
 
 pub returns-in-Ok-clause-area_by_arm : goal.returns-in-Ok-clause-area_by_arm
 returns-in-Ok-clause-area_by_arm g c stop area arm honest left =
@@ -135,7 +135,7 @@ returns-in-Ok-clause-lost g c stop honest none =
     (c.take_kept-change.ensures.answer stop.change planned) (c.take_kept-change.ensures.kept stop.change planned) in
     let still = c.attach_stopped.ensures.answer.honest_still.1 honest in
     let here : IsRecoverable jobs now now (g.D.Disk.view.may_leave disk) =
-    found_recoverable g.D.Disk.view disk store jobs found now c.in-Ok.ensures.settled c.in-Ok.ensures.keeps (c.in-Ok.ensures.jobs ∙ count) facts.same still in
+    found_recoverable g.D.Disk.view disk store jobs found now c.in-Ok.ensures.rests c.in-Ok.ensures.keeps (c.in-Ok.ensures.jobs ∙ count) facts.same still in
     not_both jobs found now after (g.D.Disk.view.seen disk) facts.same (facts.lost none) (found_stands jobs now (g.D.Disk.view.may_leave disk) (g.D.Disk.view.seen disk) here (g.met.D.Disk.seen_is_left disk still))
 
 pub returns-in-Ok-clause-still_recoverable : goal.returns-in-Ok-clause-still_recoverable

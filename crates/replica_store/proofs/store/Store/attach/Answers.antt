@@ -182,15 +182,15 @@ returns-clause-either g c before after honest recoverable =
     (λ now. inr ((c.in_ok-kept.ensures.only after now.0 now.1).0))
     stand
 
-pub returns-clause-settled : goal.returns-clause-settled
-returns-clause-settled g c =
+pub returns-clause-rests : goal.returns-clause-rests
+returns-clause-rests g c =
     let read = c.read.new.disk in
     let close = c.close.new.disk in
     let file = c.in_ok-read.read.file in
     let is : selected (g.D.Disk.view.seen read) ≡ file = ap selected (c.read.ensures.seen ∙ c.select.ensures.seen) ∙ sym c.in_ok-area.ensures.selected ∙ sym c.in_ok-read.ensures.file in
     let differs : Chooser ≢ file = λ chooser. selects_area (g.D.Disk.view.seen read) (is ∙ sym chooser) in
     record {
-      gates = c.in_ok-gates.ensures.settled;
+      gates = c.in_ok-gates.ensures.rests;
       selects = same_chooser (g.D.Disk.view.seen close) (g.D.Disk.view.seen read) (c.in_ok-gates.ensures.others Chooser differs) ∙ is ∙ sym c.in_ok-gates.ensures.file;
       chooser = λ honest.
           let there = c.close.ensures.answer.honest_still.0 honest in

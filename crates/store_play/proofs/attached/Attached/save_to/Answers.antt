@@ -23,7 +23,7 @@ invariant_of-result c =
     let after : c.args.after ≡ after_delta c.args.delta.now here.kept =
     c.requires.after ∙ ap (λ (now : AttachedState). after_delta c.args.delta.now now.kept) (sym c.self.view_is) in
     record {
-      settled = c.in-Ok.ensures.settled;
+      rests = c.in-Ok.ensures.rests;
       jobs = c.save.ensures.jobs ∙ c.self.invariant.jobs;
       keeps = subst (λ (kept : Durable). StoreKeeps c.save.new.self kept) (sym after) (c.in-Ok.ensures.keeps here.kept c.self.invariant.keeps);
     }

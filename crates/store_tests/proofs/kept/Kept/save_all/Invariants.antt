@@ -1,11 +1,11 @@
 use Rattle.std.proofs.Common.{◌≡◌}
-use Rattle.replica_store.specs.Store.{jobs_of_store, StoreKeeps, IsStoreSettled}
+use Rattle.replica_store.specs.Store.{jobs_of_store, StoreKeeps, IsStoreAtRest}
 use Rattle.store_tests.proofs.kept.Kept.save_all.Given as goal
 
 abbrev pub invariant-loop-change : goal.invariant-loop-change
 invariant-loop-change g l =
     record {
-      settled : IsStoreSettled g.D.Disk.view l.disk l.self.store;
+      rests : IsStoreAtRest g.D.Disk.view l.disk l.self.store;
       keeps : StoreKeeps l.self.store l.self.durable;
       jobs : jobs_of_store l.self.store ≡ 2;
     }

@@ -1,7 +1,7 @@
 use Rattle.std.proofs.Common.{◌-◌, length, ap, ◌∙◌, subst, sym}
 use Rattle.script_semantics.specs.Settling.{furthest}
-use Rattle.world_rounds.specs.Calm.{HaveLearned}
-use Rattle.world_rounds.proofs.CalmLemmas.{learned_in}
+use Rattle.world_rounds.specs.Cleared.{HaveLearned}
+use Rattle.world_rounds.proofs.ClearLemmas.{learned_in}
 use Rattle.world_rounds.proofs.world.World.coordinator.Goals as goal
 
 pub returns-clause-is : goal.returns-clause-is

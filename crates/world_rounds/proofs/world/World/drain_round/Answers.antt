@@ -1,7 +1,7 @@
 use Rattle.std.proofs.Common.{◌≤◌, drop, length, ap, sym, subst}
 use Rattle.script_semantics.specs.Settling.{IsDrainRound}
 use Rattle.world_rounds.specs.Bounds.{AreShort}
-use Rattle.world_rounds.proofs.DrainLemmas.{drained_calm, run_on, world_gone}
+use Rattle.world_rounds.proofs.DrainLemmas.{drained_as_set, run_on, world_gone}
 use Rattle.world_rounds.proofs.LoopLemmas.{letters_grow, round_bounded}
 use Rattle.world_rounds.proofs.RoundsOfAll.{legal_world, on_any, on_err}
 use Rattle.world_rounds.proofs.world.World.drain_round.Goals as goal
@@ -27,7 +27,7 @@ pub returns-clause-run : goal.returns-clause-run
 returns-clause-run g c =
     on_any c.check_bounds.result _
     (run_on g.D.Disk.view c.args.table.now (IsDrainRound c.args.self.now.book.members c.args.table.now c.args.who c.args.at.0) c.args.self.now c.lead_round.new.self
-    (λ situation rows after part. drained_calm c.args.self.now.book.members c.args.table.now c.args.who c.args.at.0 situation after rows part) c.requires.world c.requires.run
+    (λ situation rows after part. drained_as_set c.args.self.now.book.members c.args.table.now c.args.who c.args.at.0 situation after rows part) c.requires.world c.requires.run
     c.in_ok-lead_round.ensures.members c.in_ok-lead_round.ensures.goes)
 
 pub returns-clause-members : goal.returns-clause-members

@@ -1,5 +1,5 @@
 use Rattle.std.proofs.Common.{◌≡◌, length, arith, sym, ◌∙◌}
-use Rattle.world_rounds.proofs.CalmLemmas.{restarted_all, restarted_next, restarted_none}
+use Rattle.world_rounds.proofs.ClearLemmas.{restarted_all, restarted_next, restarted_none}
 use Rattle.world_rounds.proofs.world.World.restart_all.Goals as goal
 
 pub whos-init : goal.whos-init

@@ -1,4 +1,4 @@
-use Rattle.world_rounds.proofs.CalmLemmas.{HasRestartedTo}
+use Rattle.world_rounds.proofs.ClearLemmas.{HasRestartedTo}
 use Rattle.world_rounds.proofs.world.World.restart_all.Given as goal
 
 abbrev pub invariant-whos : goal.invariant-whos

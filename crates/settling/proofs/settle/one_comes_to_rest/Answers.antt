@@ -1,8 +1,0 @@
-use Rattle.settling.proofs.SettleLeadLemmas.{leads_nearer, now_has_table}
-use Rattle.settling.proofs.settle.one_comes_to_rest.Goals as goal
-
-pub returns-clause-nearer : goal.returns-clause-nearer
-returns-clause-nearer c = leads_nearer
-
-pub returns-clause-launch : goal.returns-clause-launch
-returns-clause-launch c = now_has_table
