@@ -135,9 +135,9 @@ module _ {D : Type 0} (view : DiskView D) (plan : FreePlan) (book : SharedBook) 
 
   pub node_then : IsNodeFit view plan who job.node
   node_then = record {
-    at_rest = stopper.stop.attached.at_rest;
-    trusted = stopper.stop.attached.trusted;
-    identity = stopper.stop.attached.identity ∙ ap (λ (n : ℕ). identity_of n who) stopper.some.members;
+    at_rest = stopper.attached.at_rest;
+    trusted = stopper.attached.trusted;
+    identity = stopper.attached.identity ∙ ap (λ (n : ℕ). identity_of n who) stopper.some.members;
     member = subst (λ (w : ℕ). w < plan.book.members) next_here.me (subst (λ (n : ℕ). old.identity.me < n) members next_here.stands.member);
   }
 
@@ -224,7 +224,7 @@ module _ {D : Type 0} (view : DiskView D) (plan : FreePlan) (book : SharedBook) 
 
     -- the disk is where the turn leaves it
     pub disk_then : IsDiskAt view ((situation_in plan more).bases who) job.node
-    disk_then = subst (λ (count : ℕ). IsDiskAt view count job.node) (sym bases_then) stopper.stop.attached.disk
+    disk_then = subst (λ (count : ℕ). IsDiskAt view count job.node) (sym bases_then) stopper.attached.disk
       where
         bases_then : (situation_in plan more).bases who ≡ bases_with (option_to_list change) (bases_behind plan.table (stopper.some.begun ++ stopper.some.more) stopper.some.book who)
         bases_then =

@@ -31,7 +31,7 @@ use Rattle.world_law.specs.declared.letter.LetterRow.{LetterRow}
 use Rattle.world_steps.specs.Nodes.{IsDiskAt, bases_behind}
 use Rattle.world_steps.specs.Parts.{armed_in}
 use Rattle.world_steps.specs.Steps.{IsBeside, IsToldOf, MayStep, WasToldOf, waits_in}
-use Rattle.world_steps.specs.Stops.{HasOutcome, HasStopped}
+use Rattle.world_steps.specs.Stops.{HasOutcome, HasStopped, IsAttached, IsNodeAfter}
 use Rattle.world_steps.specs.declared.armed.Outcome.{Outcome}
 use Rattle.world_steps.specs.declared.armed.Outcome.TheVariants as ended
 use Rattle.world_steps.specs.declared.steps.Taken.{Taken}
@@ -198,8 +198,8 @@ module _ {D : Type 0} (view : DiskView D) (plan : FreePlan) (book : SharedBook) 
       subst (λ i. IsInputInside plan.table i) (sym (told waits.0 waits.1)) tt
 
   pub was_told : (cause : Cause) (input : Input) → cause ≡ cause_kept → IsToldHere job.mail cause input
-      → WasToldOf view plan.table behind_it runner.some.book who [] job.node cause input
-  was_told cause input is told = record { beside = beside; is_told = told_of_it cause input is told; inside = inside_it cause input is told }
+      → WasToldOf plan.table behind_it runner.some.book who [] cause input
+  was_told cause input is told = record { is_told = told_of_it cause input is told; inside = inside_it cause input is told }
 
   pub may_step : (cause : Cause) (input : Input) → cause ≡ cause_kept → IsToldHere job.mail cause input → MayStep view plan.table 2147483647 job.node cause input
   may_step cause input is told = record {
@@ -207,6 +207,7 @@ module _ {D : Type 0} (view : DiskView D) (plan : FreePlan) (book : SharedBook) 
     book = runner.some.book;
     who = who;
     steps = [];
+    beside = beside;
     told = was_told cause input is told;
     counted = omega (arith, runner.some.few);
     few = omega arith;
@@ -252,9 +253,10 @@ module _ {D : Type 0} (view : DiskView D) (plan : FreePlan) (book : SharedBook) 
   -- ---- or the disk has stopped
 
   stopped : (cause : Cause) (change : Option Delta) (arm : Arm) (new : FreeJob D) → cause ≡ cause_kept → taken < plan.turns → job.mail.mail.arm ≡ Some arm
-      → HasStopped view plan.table behind_it runner.some.book who cause arm change new.node → new.seat ≡ job.seat → new.mail ≡ job.mail
+      → HasStopped plan.table behind_it runner.some.book who cause arm change (replica_of new.node).state.kept → IsAttached view plan.table behind_it runner.some.book who change new.node
+      → new.seat ≡ job.seat → new.mail ≡ job.mail
       → IsStopper view plan book who taken cause change new
-  stopped cause change arm new is left armed stop seat mail = record {
+  stopped cause change arm new is left armed stop attached seat mail = record {
     of_plan = runner.of_plan;
     after = runner.after;
     seat = rw seat runner.seat;
@@ -263,6 +265,7 @@ module _ {D : Type 0} (view : DiskView D) (plan : FreePlan) (book : SharedBook) 
     arm = arm;
     armed = rw mail armed;
     stop = stop;
+    attached = attached;
     gone = runner.gone;
     cause_is = λ begun more are. is ∙ cause_is begun more are;
     mail = λ begun more are. rw mail (runner.mail begun more are);
@@ -271,7 +274,8 @@ module _ {D : Type 0} (view : DiskView D) (plan : FreePlan) (book : SharedBook) 
   -- ---- either way
 
   pub tried : (cause : Cause) (outcome : Outcome) (new : FreeJob D) → cause ≡ cause_kept → taken < plan.turns
-      → HasOutcome view plan.table behind_it runner.some.book who cause job.mail.mail.arm outcome new.node → new.seat ≡ job.seat → new.mail ≡ job.mail
+      → HasOutcome plan.table behind_it runner.some.book who cause job.mail.mail.arm outcome (replica_of new.node).state.kept
+      → IsNodeAfter view plan.table behind_it runner.some.book who outcome new.node → new.seat ≡ job.seat → new.mail ≡ job.mail
       → HasTried view plan book who taken cause outcome new
-  tried cause (ended.Taken step) new is left after seat mail = stepped cause step new is after.0 left after.1 after.2 seat mail
-  tried cause (ended.Stopped change) new is left after seat mail = stopped cause change after.0 new is left after.1 after.2 seat mail
+  tried cause (ended.Taken step) new is left came after seat mail = stepped cause step new is came.0 left came.1 after seat mail
+  tried cause (ended.Stopped change) new is left came after seat mail = stopped cause change came.0 new is left came.1 came.2 after seat mail

@@ -19,7 +19,7 @@ use Rattle.world_law.specs.Book.{BookState, StandsBehind}
 use Rattle.world_law.specs.declared.row.BookRow.{BookRow}
 use Rattle.world_steps.specs.Nodes.{IsDiskAt, IsNodeOf}
 use Rattle.world_steps.specs.Parts.{IsBookAt, IsMailOf}
-use Rattle.world_steps.specs.Stops.{HasStopped}
+use Rattle.world_steps.specs.Stops.{HasStopped, IsAttached}
 use Rattle.world_steps.specs.Turns.{IsNextStep}
 use Rattle.world_steps.specs.declared.armed.Outcome.{Outcome}
 use Rattle.world_steps.specs.declared.armed.Outcome.TheVariants.{Taken, Stopped}
@@ -124,7 +124,8 @@ pub record IsStopper {D : Type 0} (view : DiskView D) (plan : FreePlan) (book : 
   pub left : taken < plan.turns
   pub arm : Arm
   pub armed : job.mail.mail.arm ≡ Some arm
-  pub stop : HasStopped view plan.table (some.begun ++ some.more) some.book who cause arm change job.node
+  pub stop : HasStopped plan.table (some.begun ++ some.more) some.book who cause arm change (replica_of job.node).state.kept
+  pub attached : IsAttached view plan.table (some.begun ++ some.more) some.book who change job.node
   pub gone : (begun more : List Row) → ArePlayed plan after begun more → HasGone plan who taken more
   pub cause_is : (begun more : List Row) → ArePlayed plan after begun more
       → cause ≡ next_cause plan.table.window plan.at who taken (situation_in plan more)

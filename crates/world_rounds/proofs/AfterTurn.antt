@@ -62,12 +62,12 @@ module _ {D : Type 0} (view : DiskView D) (table : Table) where
   pub member_did : (rows : List Row) (book after : BookState) (situation : Situation) (who : ℕ) (taken : Taken) (more : List Taken) (made : Option CallRow) (member : Member D)
       → (at : IsBookAt table rows book situation) → (ahead : IsMemberAhead view table rows book situation who (taken ∷ more) member)
       → (node : IsNodeAhead view table rows book who (taken ∷ more) member.node)
-      → (joined : HasJoinedAt table rows book after who taken member.mail.fate made node.took.0)
+      → (joined : HasJoinedAt table rows book after who taken made node.took.0)
       → IsMemberAhead view table (rows ++ joined.row ∷ []) after (after_turn book.members situation joined.row) who more
       (record member { mail = noted made (calls_for (option_to_list taken.out.delta)) member.mail })
   member_did rows book after situation who taken more made member at ahead node joined = record {
     mail = mail_did book.members situation joined.row who taken more made book.letters after member.mail joined.joined.turn changes joined.joined.has ahead.mail;
-    running = λ here. node_did view table rows book after who taken more member.mail.fate made member.node at.behind at.rest at.few node joined;
+    running = λ here. node_did view table rows book after who taken more made member.node at.behind at.rest at.few node joined;
     stopped = λ stopped. absurd (let e : true ≡ false = sym was ∙ sym running ∙ stopped in cc);
   }
     where
@@ -77,7 +77,7 @@ module _ {D : Type 0} (view : DiskView D) (table : Table) where
       changes : changes_in book.members situation.standing joined.row.turn joined.row.event ≡ option_to_list taken.out.delta
       changes =
           ap (λ (s : Standing). changes_in book.members s joined.row.turn joined.row.event) at.standing
-          ∙ changes_joined table rows book after who taken node.first node.took.0 member.mail.fate made joined.row
+          ∙ changes_joined table rows book after who taken node.first node.took.0 made joined.row
           (next_step view table rows book situation who taken more member.node at node) joined.joined
 
       was : (standing_behind table rows book).runs who ≡ true

@@ -27,12 +27,11 @@ use Rattle.world_rounds.specs.declared.world.World.{World}
 
 module _ {D : Type 0} (view : DiskView D) (table : Table) where
   pub told_campaign : (rows : List Row) (book : BookState) (situation : Situation) (who : ℕ) (member : Member D) → IsMemberIdle view table rows book situation who member
-      → member.mail.runs ≡ true → WasToldOf view table rows book who member.steps.items member.node Campaign told.Campaign
-  told_campaign rows book situation who member idle runs = record {
-    beside = subst (λ steps. IsBeside view table rows book who steps member.node) (sym idle.none) (idle_beside view table book rows situation who member idle runs);
-    is_told = refl;
-    inside = tt;
-  }
+      → member.mail.runs ≡ true → IsBeside view table rows book who member.steps.items member.node × WasToldOf table rows book who member.steps.items Campaign told.Campaign
+  told_campaign rows book situation who member idle runs = (
+    subst (λ steps. IsBeside view table rows book who steps member.node) (sym idle.none) (idle_beside view table book rows situation who member idle runs),
+    record { is_told = refl; inside = tt },
+  )
 
   pub campaign_taken : (rows : List Row) (book : BookState) (situation : Situation) (who : ℕ) (old new : Member D) → IsMemberIdle view table rows book situation who old
       → old.mail.runs ≡ true → IsBeside view table rows book who new.steps.items new.node → new.mail ≡ old.mail → causes_of new.steps.items ≡ causes_of old.steps.items ++ Campaign ∷ []

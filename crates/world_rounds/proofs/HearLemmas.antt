@@ -43,14 +43,13 @@ module _ {D : Type 0} (view : DiskView D) (table : Table) (book : BookState) whe
   letter_there rows who steps node numbers place may below = is_there book.letters who _ (sent_at book.letters who numbers place may.sent below)
 
   -- the node is told of the next letter
-  pub told_letter : (rows : List Row) (who : ℕ) (steps now : List Taken) (old node : Node D) (numbers : List ℕ) (place : ℕ) (letter : LetterRow) (input : Input)
-      → MayHear view table rows book who steps old numbers → place < length numbers → IsBeside view table rows book who now node
+  pub told_letter : (rows : List Row) (who : ℕ) (steps now : List Taken) (old : Node D) (numbers : List ℕ) (place : ℕ) (letter : LetterRow) (input : Input)
+      → MayHear view table rows book who steps old numbers → place < length numbers
       → slice_get book.letters (get_or numbers place 0) ≡ Some letter → IsLetterInput input letter.bytes → IsInputInside table input
-      → WasToldOf view table rows book who now node (Hear (get_or numbers place 0)) input
-  told_letter rows who steps now old node numbers place letter input may below beside there is inside =
+      → WasToldOf table rows book who now (Hear (get_or numbers place 0)) input
+  told_letter rows who steps now old numbers place letter input may below there is inside =
       let sent = sent_at book.letters who numbers place may.sent below in
       record {
-        beside = beside;
         is_told =
             record {
               sent = sent;

@@ -10,6 +10,7 @@ use Rattle.cluster_sched.specs.declared.row.SchedRow.{SchedRow}
 use Rattle.disk_model.specs.declared.armed.Arm.{Arm}
 use Rattle.due_set.specs.Table.{Table}
 use Rattle.paxos_base.specs.declared.durable.Delta.{Delta}
+use Rattle.paxos_base.specs.declared.durable.Durable.{Durable}
 use Rattle.save_calls.specs.Save.{is_kept}
 use Rattle.step_spec.specs.State.{started}
 use Rattle.step_spec.specs.Step.{Event}
@@ -31,6 +32,7 @@ use Rattle.script_semantics.specs.Arms.{IsEnough, IsTurnByArm}
 use Rattle.script_semantics.specs.Situation.{Armed, AreTurnsFor, Do, Does, IsTurnFor, is_cut, Situation, after_turn, after_turns, arms_after, bases_with, changes_in, fates_after, latest_after, latest_with, mails_after}
 use Rattle.world_law.specs.Book.{BookState, StandsBehind, standing_behind}
 use Rattle.agreement.specs.Transition.{identity_of}
+use Rattle.replica_node.specs.Node.{replica_of}
 use Rattle.replica_node.specs.declared.node.Node.{Node}
 use Rattle.world_law.specs.Replicas.{IsLetterInput, IsStopOf, StandsStopped}
 use Rattle.world_law.specs.declared.letter.LetterRow.{LetterRow}
@@ -108,10 +110,13 @@ module _ {D : Type 0} (view : DiskView D) (table : Table) where
       idle.ahead.mail.sent number (subst (λ (mail : List ℕ). Contains mail number) (sym may.next.1 ∙ idle.ahead.mail.letters_are) (in_first number may.next.0))
   can_tell rows book situation who Answer member idle may = subst (λ (waits : Option SchedRow). IsSome waits) (sym idle.ahead.mail.waits) may.next
 
+  pub beside_now : (rows : List Row) (book : BookState) (situation : Situation) (who : ℕ) (cause : Cause) (member : Member D) → IsMemberIdle view table rows book situation who member
+      → MayStepFor table.window situation who cause → IsBeside view table rows book who [] member.node
+  beside_now rows book situation who cause member idle may = idle_beside view table book rows situation who member idle (idle.ahead.mail.runs ∙ may.runs)
+
   pub was_told : (rows : List Row) (book : BookState) (situation : Situation) (who : ℕ) (cause : Cause) (input : Input) (member : Member D) → IsMemberIdle view table rows book situation who member
-      → MayStepFor table.window situation who cause → IsToldOf book.letters member.mail.waits who cause input → WasToldOf view table rows book who [] member.node cause input
+      → MayStepFor table.window situation who cause → IsToldOf book.letters member.mail.waits who cause input → WasToldOf table rows book who [] cause input
   was_told rows book situation who cause input member idle may told = record {
-    beside = idle_beside view table book rows situation who member idle (idle.ahead.mail.runs ∙ may.runs);
     is_told = subst (λ (waits : Option SchedRow). IsToldOf book.letters waits who cause input) (idle.ahead.mail.waits ∙ ap (λ (s : Standing). s.waits who) idle.at.standing) told;
     inside = inside_of table book.letters member.mail.waits who cause input situation told may.next;
   }
@@ -267,31 +272,31 @@ module _ {D : Type 0} (view : DiskView D) (table : Table) where
   -- ---- a turn within which the disk has stopped
 
   -- the turn of the stop
-  pub turn_stopped : (rows : List Row) (book : BookState) (who : ℕ) (cause : Cause) (arm : Arm) (answer : Option Delta) (node : Node D)
-      → (stopped : HasStopped view table rows book who cause arm answer node)
+  pub turn_stopped : (rows : List Row) (book : BookState) (who : ℕ) (cause : Cause) (arm : Arm) (answer : Option Delta) (kept : Durable)
+      → (stopped : HasStopped table rows book who cause arm answer kept)
       → IsStopOf table rows book who (Some cause) answer (kept_after answer stopped.old.state.kept)
-  turn_stopped rows book who cause arm answer node stopped =
-      let kept : Bool = is_kept (bases_behind table rows book who) stopped.change arm.left arm.image in
+  turn_stopped rows book who cause arm answer kept stopped =
+      let saved : Bool = is_kept (bases_behind table rows book who) stopped.change arm.left arm.image in
       subst (λ (a : Option Delta). IsStopOf table rows book who (Some cause) a (kept_after a stopped.old.state.kept)) (sym stopped.is_kept)
-      (stop_turn table rows book who cause stopped.old stopped.change kept stopped.next)
+      (stop_turn table rows book who cause stopped.old stopped.change saved stopped.next)
 
   pub alone_stopped : (rows : List Row) (world : World D) (situation : Situation) (who : ℕ) (cause : Cause) (arm : Arm) (answer : Option Delta)
       → (may : MayCommitStopped view table rows world situation who cause arm answer)
-      → IsAlone table rows world.book (Stopped who (Some cause) (is_some answer)) answer (turn_stopped rows may.before.book who cause arm answer may.new.node may.stopped).row
+      → IsAlone table rows world.book (Stopped who (Some cause) (is_some answer)) answer (turn_stopped rows may.before.book who cause arm answer (replica_of may.new.node).state.kept may.stopped).row
   alone_stopped rows world situation who cause arm answer may =
-      let stop = turn_stopped rows may.before.book who cause arm answer may.new.node may.stopped in
+      let stop = turn_stopped rows may.before.book who cause arm answer (replica_of may.new.node).state.kept may.stopped in
       record { behind = rw may.book may.is.ahead.at.behind; rest = rw may.book may.is.ahead.at.rest; call = refl; is = stop.is; may = rw may.book stop.may }
 
   module _ (rows : List Row) (world new : World D) (situation : Situation) (who : ℕ) (cause : Cause) (arm : Arm) (answer : Option Delta) (next : Member D)
       (may : MayCommitStopped view table rows world situation who cause arm answer)
-      (joined : HasJoinedAlone table rows world.book new.book (turn_stopped rows may.before.book who cause arm answer may.new.node may.stopped).row)
+      (joined : HasJoinedAlone table rows world.book new.book (turn_stopped rows may.before.book who cause arm answer (replica_of may.new.node).state.kept may.stopped).row)
       (members : new.members.items ≡ set world.members.items who next) (node : next.node ≡ may.new.node) (steps : next.steps ≡ may.new.steps) (halted : IsHalted may.new.mail next.mail)
       (cuts : new.cuts ≡ world.cuts) (latest : new.latest.0 ≡ latest_with cause world.latest.0) where
     abbrev before : World D
     before = may.before
 
     abbrev stop : IsStopOf table rows before.book who (Some cause) answer (kept_after answer may.stopped.old.state.kept)
-    stop = turn_stopped rows before.book who cause arm answer may.new.node may.stopped
+    stop = turn_stopped rows before.book who cause arm answer (replica_of may.new.node).state.kept may.stopped
 
     abbrev row : Row
     row = stop.row
@@ -337,7 +342,7 @@ module _ {D : Type 0} (view : DiskView D) (table : Table) where
     disk_is =
         subst (λ (count : ℕ). IsDiskAt view count may.new.node)
         (sym (bases_stopped table rows before.book new.book who cause may.stopped.old may.stopped.change kept row n_is may.stopped.next turn stop.may
-        ∙ ap (λ (a : Option Delta). bases_with (option_to_list a) (bases_behind table rows before.book who)) (sym may.stopped.is_kept))) may.stopped.attached.disk
+        ∙ ap (λ (a : Option Delta). bases_with (option_to_list a) (bases_behind table rows before.book who)) (sym may.stopped.is_kept))) may.attached.disk
 
     behind : StandsBehind table (rows ++ row ∷ []) new.book
     behind = joined.behind
@@ -358,10 +363,10 @@ module _ {D : Type 0} (view : DiskView D) (table : Table) where
       running = λ running. absurd (let e : true ≡ false = sym running ∙ stands_stopped.stopped in cc);
       stopped = λ stopped. subst (λ (n : Node D). IsNodeStopped view table new.book.members (standing_behind table (rows ++ row ∷ []) new.book) (bases_behind table (rows ++ row ∷ []) new.book who) who [] n)
           (sym node) (record {
-            at_rest = may.stopped.attached.at_rest;
-            trusted = may.stopped.attached.trusted;
+            at_rest = may.attached.at_rest;
+            trusted = may.attached.trusted;
             disk = disk_is;
-            identity = may.stopped.attached.identity ∙ ap (λ (n : ℕ). identity_of n who) (sym n_is);
+            identity = may.attached.identity ∙ ap (λ (n : ℕ). identity_of n who) (sym n_is);
             none = refl;
             kept = stands_stopped.state ∙ ap (started who) (sym may.stopped.keeps);
           });

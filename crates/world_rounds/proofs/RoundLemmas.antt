@@ -89,11 +89,11 @@ module _ {D : Type 0} (view : DiskView D) (table : Table) (book : BookState) whe
       → IsBeside view table rows book who steps node → MayHear view table rows book who steps node member.mail.letters.items
   may_hear rows situation who member steps node idle beside = record { beside = beside; sent = idle.ahead.mail.sent }
 
-  pub told_tick : (rows : List Row) (who : ℕ) (steps : List Taken) (node : Node D) (now : Minute) (at skew : ℤ) → table.window.from.0 <ℤ table.window.until.0
-      → IsBeside view table rows book who steps node → now ≡ clock_reading table.window at skew
-      → WasToldOf view table rows book who steps node (Tick now) (told.Tick now)
-  told_tick rows who steps node now at skew ordered beside is =
-      record { beside = beside; is_told = refl; inside = rw is (clock_inside table.window at skew ordered) }
+  pub told_tick : (rows : List Row) (who : ℕ) (steps : List Taken) (now : Minute) (at skew : ℤ) → table.window.from.0 <ℤ table.window.until.0
+      → now ≡ clock_reading table.window at skew
+      → WasToldOf table rows book who steps (Tick now) (told.Tick now)
+  told_tick rows who steps now at skew ordered is =
+      record { is_told = refl; inside = rw is (clock_inside table.window at skew ordered) }
 
   -- ---- what it has taken
 

@@ -79,15 +79,15 @@ module _ {D : Type 0} (view : DiskView D) (table : Table) where
 
   pub world_did : (rows : List Row) (world after : World D) (situation : Situation) (ahead_by : ℕ → List Taken) (who : ℕ) (taken : Taken) (more : List Taken) (member : Member D) (made : Option CallRow)
       → IsWorldAhead view table rows world situation ahead_by → ahead_by who ≡ taken ∷ more → slice_get world.members.items who ≡ Some member
-      → ((rows : List Row) (old new : ReplicaState) → IsNextStep table rows world.book who taken old new → HasJoinedAt table rows world.book after.book who taken member.mail.fate made new)
+      → ((rows : List Row) (old new : ReplicaState) → IsNextStep table rows world.book who taken old new → HasJoinedAt table rows world.book after.book who taken made new) → IfSome made (λ call. call.fate ≡ member.mail.fate)
       → after.members.items ≡ set world.members.items who (record member { mail = noted made (calls_for (option_to_list taken.out.delta)) member.mail }) → after.cuts ≡ world.cuts
       → after.latest.0 ≡ latest_with taken.cause world.latest.0
       → HasTakenTurns view table world.book.members rows situation (tasks_by who (causes_of (taken ∷ []))) (with_fact who more ahead_by) after
-  world_did rows world after situation ahead_by who taken more member made ahead mine there joins members cuts latest =
+  world_did rows world after situation ahead_by who taken more member made ahead mine there joins fated members cuts latest =
       record {
         members_are = joined.joined.members;
         more = joined.row ∷ [];
-        turns = (record { made = made; is = joined.joined.turn; fate = subst (λ becomes. IfSome made (λ call. call.fate ≡ becomes)) ahead_mine.mail.fate joined.joined.fated }, refl);
+        turns = (record { made = made; is = joined.joined.turn; fate = subst (λ becomes. IfSome made (λ call. call.fate ≡ becomes)) ahead_mine.mail.fate fated }, refl);
         ahead =
             world_on rows world after situation ahead_by (with_fact who more ahead_by) joined.row ahead joined.joined.behind joined.joined.rest joined.joined.members
             (ap length members ∙ length-set world.members.items who _) cuts
@@ -100,7 +100,7 @@ module _ {D : Type 0} (view : DiskView D) (table : Table) where
       node : IsNodeAhead view table rows world.book who (taken ∷ more) member.node
       node = ahead_mine.running (runs_ahead view table rows world.book situation who taken more member ahead_mine)
 
-      joined : HasJoinedAt table rows world.book after.book who taken member.mail.fate made node.took.0
+      joined : HasJoinedAt table rows world.book after.book who taken made node.took.0
       joined = joins rows node.first node.took.0 (next_step view table rows world.book situation who taken more member.node ahead.at node)
 
       here : (x : Member D) → x ≡ record member { mail = noted made (calls_for (option_to_list taken.out.delta)) member.mail }

@@ -13,12 +13,13 @@ use Rattle.history.specs.declared.turn.Cause.{Cause}
 use Rattle.history.specs.declared.turn.Cause.TheVariants.{Campaign, Tick, Hear, Answer}
 use Rattle.history.specs.declared.turn.Turn.{Turn}
 use Rattle.history.specs.declared.turn.Turn.TheVariants.{Stopped}
+use Rattle.replica_node.specs.Node.{replica_of}
 use Rattle.script_semantics.specs.Arms.{AreTurnsByArms, IsEnough, IsTurnByArm, is_task_of}
 use Rattle.script_semantics.specs.Situation.{Do, Situation, Task, after_turn, after_turns}
 use Rattle.world_law.specs.Book.{BookState}
 use Rattle.world_law.specs.declared.letter.LetterRow.{LetterRow}
 use Rattle.world_steps.specs.Parts.{IsSentTo, armed_in}
-use Rattle.world_steps.specs.Stops.{HasStopped}
+use Rattle.world_steps.specs.Stops.{HasStopped, IsAttached}
 use Rattle.world_steps.specs.declared.armed.Outcome.{Outcome}
 use Rattle.world_steps.specs.declared.armed.Outcome.TheVariants as outcome
 use Rattle.world_rounds.specs.Rounds.{IsMemberIdle}
@@ -64,7 +65,8 @@ pub record HasBroken {D : Type 0} (view : DiskView D) (table : Table) (rows : Li
     (cause : Cause) (answer : Option Delta) (new : Member D) : Type 0 where
   pub arm : Arm
   pub armed : armed_in (Some arm) ≡ situation.arms who
-  pub stopped : HasStopped view table rows book who cause arm answer new.node
+  pub stopped : HasStopped table rows book who cause arm answer (replica_of new.node).state.kept
+  pub attached : IsAttached view table rows book who answer new.node
   pub none : new.steps.items ≡ []
 
 -- what came of the step: the replica is a step ahead of the book, or its disk has stopped
@@ -90,7 +92,8 @@ pub record MayCommitStopped {D : Type 0} (view : DiskView D) (table : Table) (ro
   pub there : slice_get before.members.items who ≡ Some old
   pub new : Member D
   pub members : world.members.items ≡ slice_set before.members.items who new
-  pub stopped : HasStopped view table rows before.book who cause arm answer new.node
+  pub stopped : HasStopped table rows before.book who cause arm answer (replica_of new.node).state.kept
+  pub attached : IsAttached view table rows before.book who answer new.node
   pub mail : new.mail ≡ old.mail
   pub steps : new.steps.items ≡ []
   pub book : world.book ≡ before.book

@@ -26,9 +26,11 @@ pub(crate) fn keep_step<D: Disk>(
     cause: Cause,
     input: Input<'_>,
 ) -> Result<(), OutOfMemory>
-    requires told { (rows : List Row) × (who : ℕ) × WasToldOf D.view table.now rows book.now who steps.old.items node.old cause input }
+    requires told { (rows : List Row) × (who : ℕ) × IsBeside D.view table.now rows book.now who steps.old.items node.old
+        × WasToldOf table.now rows book.now who steps.old.items cause input }
     ensures causes { OnOk result (causes_of steps.new.items ≡ causes_of steps.old.items ++ cause ∷ []) }
-    ensures beside { (rows : List Row) (who : ℕ) → WasToldOf D.view table.now rows book.now who steps.old.items node.old cause input.entry
+    ensures beside { (rows : List Row) (who : ℕ) → IsBeside D.view table.now rows book.now who steps.old.items node.old
+        → WasToldOf table.now rows book.now who steps.old.items cause input.entry
         → OnOk result (IsBeside D.view table.now rows book.now who steps.new.items node.new) }
 {
     if steps.len() >= MOST_STEPS {

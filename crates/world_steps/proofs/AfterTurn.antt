@@ -231,10 +231,10 @@ module _ {D : Type 0} (view : DiskView D) (table : Table) where
       record { behind = at.behind; rest = at.rest; few = at.few; stands = ahead.stands; me = ahead.me; step = ahead.took.1 }
 
   -- and is a turn then: the node is ahead by the other steps
-  pub node_did : (rows : List Row) (book after : BookState) (who : ℕ) (taken : Taken) (more : List Taken) (set : Fate) (made : Option CallRow) (node : Node D)
-      → StandsBehind table rows book → book.pending ≡ None → book.members ≤ 7 → (ahead : IsNodeAhead view table rows book who (taken ∷ more) node) → (joined : HasJoinedAt table rows book after who taken set made ahead.took.0)
+  pub node_did : (rows : List Row) (book after : BookState) (who : ℕ) (taken : Taken) (more : List Taken) (made : Option CallRow) (node : Node D)
+      → StandsBehind table rows book → book.pending ≡ None → book.members ≤ 7 → (ahead : IsNodeAhead view table rows book who (taken ∷ more) node) → (joined : HasJoinedAt table rows book after who taken made ahead.took.0)
       → IsNodeAhead view table (rows ++ joined.row ∷ []) after who more node
-  node_did rows book after who taken more set made node behind rest few ahead joined = record {
+  node_did rows book after who taken more made node behind rest few ahead joined = record {
     at_rest = ahead.at_rest;
     trusted = ahead.trusted;
     disk = subst (λ (count : ℕ). IsDiskAt view count node) (sym bases) ahead.disk;
@@ -249,5 +249,5 @@ module _ {D : Type 0} (view : DiskView D) (table : Table) where
 
       bases : bases_with (changes_of more) (bases_behind table (rows ++ joined.row ∷ []) after who) ≡ bases_with (changes_of (taken ∷ more)) (bases_behind table rows book who)
       bases =
-          ap (bases_with (changes_of more)) (bases_here table rows book after who taken ahead.first ahead.took.0 set made joined.row next joined.joined)
+          ap (bases_with (changes_of more)) (bases_here table rows book after who taken ahead.first ahead.took.0 made joined.row next joined.joined)
           ∙ sym (bases_more (option_to_list taken.out.delta) (changes_of more) (bases_behind table rows book who))

@@ -2,7 +2,6 @@
 use Rattle.std.proofs.Common.{◌≡◌, ◌≢◌, ℕ, Bool, true, false, List, [], ◌∷◌, ◌++◌, fold, Option, None, Some, refl, sym, ap, ◌∙◌, subst}
 use Rattle.std.proofs.lemmas.List.Sums.{fold_push, fold-append}
 use Rattle.std.specs.Option.{option_to_list}
-use Rattle.cluster_sched.specs.declared.fate.Fate.{Fate}
 use Rattle.disk_model.specs.declared.armed.Arm.{Arm}
 use Rattle.due_set.specs.Table.{Table}
 use Rattle.launch_machine.specs.Clerk.{first_rows}
@@ -149,10 +148,10 @@ pub last_may : (table : Table) (rows : List Row) (row : Row) (book after : BookS
 last_may table rows row book after members behind =
     subst (λ (n : ℕ). MayFollow n table (standing_after n (first_rows table) rows) row.turn row) members (may_next after.members table rows [] row behind.legal)
 
-pub changes_joined : (table : Table) (rows : List Row) (book after : BookState) (who : ℕ) (taken : Taken) (old new : ReplicaState) (becomes : Fate) (made : Option CallRow) (row : Row)
-    → IsNextStep table rows book who taken old new → HasJoined table rows book after who taken becomes made row
+pub changes_joined : (table : Table) (rows : List Row) (book after : BookState) (who : ℕ) (taken : Taken) (old new : ReplicaState) (made : Option CallRow) (row : Row)
+    → IsNextStep table rows book who taken old new → HasJoined table rows book after who taken made row
     → changes_in book.members (standing_behind table rows book) row.turn row.event ≡ option_to_list taken.out.delta
-changes_joined table rows book after who taken old new becomes made row next joined =
+changes_joined table rows book after who taken old new made row next joined =
     changes_by table rows book who taken old new made row next joined.turn (last_may table rows row book after joined.members joined.behind)
 
 -- so it is of a stop within a step
@@ -175,11 +174,11 @@ changes_stopped table rows book who cause old change kept row next turn may =
     mine = subst (λ (w : ℕ). TakesTurn book.members table s w cause row.event) (sym next.me) (subst (λ (t : Turn). MayFollow book.members table s t row) turn may).0
 
 -- the replica has kept as many bases as its step has
-pub bases_here : (table : Table) (rows : List Row) (book after : BookState) (who : ℕ) (taken : Taken) (old new : ReplicaState) (becomes : Fate) (made : Option CallRow) (row : Row)
-    → IsNextStep table rows book who taken old new → HasJoined table rows book after who taken becomes made row
+pub bases_here : (table : Table) (rows : List Row) (book after : BookState) (who : ℕ) (taken : Taken) (old new : ReplicaState) (made : Option CallRow) (row : Row)
+    → IsNextStep table rows book who taken old new → HasJoined table rows book after who taken made row
     → bases_behind table (rows ++ row ∷ []) after who ≡ bases_with (option_to_list taken.out.delta) (bases_behind table rows book who)
-bases_here table rows book after who taken old new becomes made row next joined =
+bases_here table rows book after who taken old new made row next joined =
     ap (λ (bases : ℕ → ℕ). bases who) (bases_row table rows row book after joined.members)
     ∙ ap (λ (turn : Turn). bases_kept turn (changes_in book.members (standing_behind table rows book) row.turn row.event) (bases_behind table rows book) who) joined.turn
     ∙ fact_here who _ (bases_behind table rows book)
-    ∙ ap (λ (changes : List Delta). bases_with changes (bases_behind table rows book who)) (changes_joined table rows book after who taken old new becomes made row next joined)
+    ∙ ap (λ (changes : List Delta). bases_with changes (bases_behind table rows book who)) (changes_joined table rows book after who taken old new made row next joined)

@@ -1,7 +1,6 @@
 -- A step that becomes a turn of a book.
 use Rattle.std.proofs.Common.{◌≡◌, ℕ, List, [], ◌∷◌, ◌++◌, length, Option, None, Some, IfSome, refl, sym, ◌∙◌, subst}
 use Rattle.std.specs.Option.{option_to_list}
-use Rattle.cluster_sched.specs.declared.fate.Fate.{Fate}
 use Rattle.cluster_sched.specs.declared.row.SchedRow.{SchedRow}
 use Rattle.due_set.specs.Table.{Table}
 use Rattle.step_spec.specs.Step.{Event, step}
@@ -118,21 +117,20 @@ turn_may_come table rows book during who taken old new made next members behind 
     record { rows = rows; behind = behind; row = turn.row; is = turn.is; may = rw members turn.may }
 
 -- and joins it: the book was `book`, `ready` with more room, `during` with the call, and is `after`
-pub has_joined : (table : Table) (rows : List Row) (book ready during after : BookState) (who : ℕ) (taken : Taken) (old new : ReplicaState) (becomes : Fate) (made : Option CallRow)
+pub has_joined : (table : Table) (rows : List Row) (book ready during after : BookState) (who : ℕ) (taken : Taken) (old new : ReplicaState) (made : Option CallRow)
     → IsNextStep table rows book who taken old new → IsSameBook ready book → during.members ≡ ready.members → during.letters ≡ ready.letters → StandsBehind table rows during
-    → IsMade (standing_behind table rows ready).held (option_to_list taken.out.call) made → IfSome made (λ call. call.fate ≡ becomes)
+    → IsMade (standing_behind table rows ready).held (option_to_list taken.out.call) made
     → Commits (Did who taken.cause made) taken.out.letters during after
     → ((rows : List Row) (row : Row) → StandsBehind table rows during → IsRowOf (Did who taken.cause made) taken.out row
     → MayFollow during.members table (standing_behind table rows during) row.turn row → StandsBehind table (rows ++ row ∷ []) after)
-    → HasJoinedAt table rows book after who taken becomes made new
-has_joined table rows book ready during after who taken old new becomes made next alike members letters behind call fated commits added =
+    → HasJoinedAt table rows book after who taken made new
+has_joined table rows book ready during after who taken old new made next alike members letters behind call commits added =
     let turn = turn_of_step table rows ready who taken old new made (next_alike table rows book ready who taken old new alike next) call in
     record {
       row = turn.row;
       joined = record {
         turn = turn.is.turn_is;
         letters = turn.is.letters;
-        fated = fated;
         behind = added rows turn.row behind turn.is (rw members turn.may);
         rest = commits.pending;
         members = commits.members ∙ members ∙ alike.members;

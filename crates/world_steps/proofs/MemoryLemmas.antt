@@ -26,7 +26,7 @@ use Rattle.replica_node.specs.declared.node.Node.{Node as Seat}
 use Rattle.world_law.specs.Book.{BookState, StandsBehind, posted_as}
 use Rattle.world_law.specs.Replicas.{IsLetterInput}
 use Rattle.world_law.specs.declared.letter.LetterRow.{LetterRow}
-use Rattle.world_steps.specs.Steps.{IsToldOf, TookSteps, WasToldOf, waits_behind, waits_in}
+use Rattle.world_steps.specs.Steps.{IsBeside, IsToldOf, TookSteps, WasToldOf, waits_behind, waits_in}
 use Rattle.world_steps.specs.declared.steps.Taken.{Taken}
 use Rattle.step_spec.proofs.ListLemmas.{in_map}
 
@@ -84,11 +84,12 @@ took_identity table letters waits who (taken ∷ more) old new took = took_ident
 
 module _ {D : Type 0} (view : DiskView D) where
   -- what a node is told of a cause is no letter that breaks a rule
-  pub cause_breaks_none : (table : Table) (rows : List Row) (book : BookState) (who : ℕ) (steps : List Taken) (node : Seat D) (cause : Cause) (told : Input) → WasToldOf view table rows book who steps node cause told
+  pub cause_breaks_none : (table : Table) (rows : List Row) (book : BookState) (who : ℕ) (steps : List Taken) (node : Seat D) (cause : Cause) (told : Input)
+      → IsBeside view table rows book who steps node → WasToldOf table rows book who steps cause told
       → fault_in (replica_of node).identity.members told ≡ None
-  cause_breaks_none table rows book who steps node cause told was =
-      let ahead = was.beside.ahead in
+  cause_breaks_none table rows book who steps node cause told beside was =
+      let ahead = beside.ahead in
       let same : (replica_of node).identity ≡ ahead.first.identity = took_identity table book.letters (waits_in table rows book who) who steps ahead.first (replica_of node) ahead.took in
       let members : (replica_of node).identity.members ≡ book.members = ap (λ (self : Identity). self.members) (same ∙ ahead.stands.identity) in
       subst (λ (n : ℕ). fault_in n told ≡ None) (sym members)
-      (told_breaks_none table rows book (waits_behind steps (waits_in table rows book who)) who cause told was.beside.behind was.is_told)
+      (told_breaks_none table rows book (waits_behind steps (waits_in table rows book who)) who cause told beside.behind was.is_told)

@@ -106,24 +106,24 @@ module _ {D : Type 0} (view : DiskView D) where
 
   -- and is one step more ahead of it after the next
   pub beside_next : (table : Table) (rows : List Row) (book : BookState) (who : ℕ) (steps : List Taken) (old new : Node D) (cause : Cause) (input : Input) (out : StepOut)
-      → WasToldOf view table rows book who steps old cause input → IsNodeAtRest view table new → view.honest (disk_of new)
+      → IsBeside view table rows book who steps old → WasToldOf table rows book who steps cause input → IsNodeAtRest view table new → view.honest (disk_of new)
       → IsReliable (view.told (disk_of new)) → IsNodeClean view new → area_of (store_of new) ≡ area_for out.delta (area_of (store_of old))
       → Steps table input (replica_of old) (replica_of new) out → IsBeside view table rows book who (steps ++ record { cause = cause; out = out } ∷ []) new
-  beside_next table rows book who steps old new cause input out told rest trusted reliable clean area stepped = record {
-    sound = told.beside.sound;
-    behind = told.beside.behind;
-    rest = told.beside.rest;
-    few = told.beside.few;
+  beside_next table rows book who steps old new cause input out beside told rest trusted reliable clean area stepped = record {
+    sound = beside.sound;
+    behind = beside.behind;
+    rest = beside.rest;
+    few = beside.few;
     ahead = record {
       at_rest = rest;
       trusted = trusted;
       disk = record { reliable = reliable; clean = clean; area = area_is };
-      first = told.beside.ahead.first;
-      stands = told.beside.ahead.stands;
-      me = told.beside.ahead.me;
+      first = beside.ahead.first;
+      stands = beside.ahead.stands;
+      me = beside.ahead.me;
       took =
-          took_next table book.letters (waits_in table rows book who) who steps (record { cause = cause; out = out }) told.beside.ahead.first (replica_of old) (replica_of new)
-          told.beside.ahead.took (record { input = input; is_told = told.is_told; inside = told.inside; steps = stepped });
+          took_next table book.letters (waits_in table rows book who) who steps (record { cause = cause; out = out }) beside.ahead.first (replica_of old) (replica_of new)
+          beside.ahead.took (record { input = input; is_told = told.is_told; inside = told.inside; steps = stepped });
     };
   }
     where
@@ -132,5 +132,5 @@ module _ {D : Type 0} (view : DiskView D) where
 
       area_is : area_of (store_of new) ≡ area_by (bases_with (changes_of (steps ++ record { cause = cause; out = out } ∷ [])) bases)
       area_is =
-          area ∙ ap (area_for out.delta) told.beside.ahead.disk.area ∙ area_with out.delta (bases_with (changes_of steps) bases)
+          area ∙ ap (area_for out.delta) beside.ahead.disk.area ∙ area_with out.delta (bases_with (changes_of steps) bases)
           ∙ ap area_by (sym (bases_more (changes_of steps) (option_to_list out.delta) bases) ∙ ap (λ (changes : List Delta). bases_with changes bases) (sym (changes_next steps (record { cause = cause; out = out }))))

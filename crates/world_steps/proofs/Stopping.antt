@@ -37,8 +37,8 @@ use Rattle.world_law.specs.Replicas.{IsStopOf, StandsAt}
 use Rattle.world_steps.specs.Nodes.{bases_behind}
 use Rattle.world_steps.proofs.Bases.{bases_row, changes_stopped, told_stop}
 use Rattle.world_steps.proofs.StepLemmas.{area_with}
-use Rattle.world_steps.specs.Steps.{WasToldOf}
-use Rattle.world_steps.specs.Stops.{HasStopped, IsNextStop, change_kept}
+use Rattle.world_steps.specs.Steps.{IsBeside, WasToldOf}
+use Rattle.world_steps.specs.Stops.{HasStopped, IsAttached, IsNextStop, change_kept}
 use Rattle.history.proofs.Standings.{fact_here}
 
 -- what tells something of itself tells
@@ -71,48 +71,49 @@ kept_is false change = refl
 
 module _ {D : Type 0} (view : DiskView D) (table : Table) where
   -- a replica that is no step ahead stands where the book has it
-  pub stands_beside : (rows : List Row) (book : BookState) (who : ℕ) (node : Node D) (cause : Cause) (input : Input) → WasToldOf view table rows book who [] node cause input
-      → StandsAt table rows book (replica_of node)
-  stands_beside rows book who node cause input told = subst (λ (replica : ReplicaState). StandsAt table rows book replica) (sym told.beside.ahead.took) told.beside.ahead.stands
+  pub stands_beside : (rows : List Row) (book : BookState) (who : ℕ) (node : Node D) → IsBeside view table rows book who [] node → StandsAt table rows book (replica_of node)
+  stands_beside rows book who node beside = subst (λ (replica : ReplicaState). StandsAt table rows book replica) (sym beside.ahead.took) beside.ahead.stands
 
   pub has_stopped : (rows : List Row) (book : BookState) (who members : ℕ) (node new : Node D) (cause : Cause) (input : Input) (arm : Arm) (answer : Option Delta) (change : Delta)
-      → WasToldOf view table rows book who [] node cause input → IsChangeOf table input (replica_of node) (Some change) → arm.left < saved.calls_of_change (Some change)
+      → IsBeside view table rows book who [] node → WasToldOf table rows book who [] cause input → IsChangeOf table input (replica_of node) (Some change) → arm.left < saved.calls_of_change (Some change)
       → IsAnsweredByArm (area_of (store_of node)) (replica_of node).state.kept change arm answer
       → ((KeepsChange (area_of (store_of node)) change arm → ⊥) → answer ≡ None)
       → IsNodeAtRest view table new → view.honest (disk_of new) → IsReliable (view.told (disk_of new)) → IsNodeClean view new
       → area_of (store_of new) ≡ area_for answer (area_of (store_of node)) → (replica_of new).identity ≡ identity_of members who → book.members ≡ members
       → (replica_of new).state ≡ started who (replica_of new).state.kept → (replica_of new).state.kept ≡ kept_after answer (replica_of node).state.kept
-      → HasStopped view table rows book who cause arm answer new
-  has_stopped rows book who members node new cause input arm answer change told changes few answered lost rest trusted reliable clean area identity same start keeps = record {
-    old = replica_of node;
-    change = change;
-    next = record {
-      behind = told.beside.behind;
-      rest = told.beside.rest;
-      few = told.beside.few;
-      stands = stands_beside rows book who node cause input told;
-      me = ap (λ (replica : ReplicaState). replica.identity.me) told.beside.ahead.took ∙ told.beside.ahead.me;
-      began = record { input = input; is_told = told.is_told; inside = told.inside; event = changes.event; event_is = changes.event_is; changes = changes.change_is };
-    };
-    few = few;
-    is_kept =
-        answer_is bases change arm (replica_of node).state.kept answer (subst (λ area. IsAnsweredByArm area (replica_of node).state.kept change arm answer) in_use answered)
-        (λ loses. lost (λ keeps. loses (subst (λ area. KeepsChange area change arm) in_use keeps)));
-    attached = record {
+      → HasStopped table rows book who cause arm answer (replica_of new).state.kept × IsAttached view table rows book who answer new
+  has_stopped rows book who members node new cause input arm answer change beside told changes few answered lost rest trusted reliable clean area identity same start keeps = (
+    record {
+      old = replica_of node;
+      change = change;
+      next = record {
+        behind = beside.behind;
+        rest = beside.rest;
+        few = beside.few;
+        stands = stands_beside rows book who node beside;
+        me = ap (λ (replica : ReplicaState). replica.identity.me) beside.ahead.took ∙ beside.ahead.me;
+        began = record { input = input; is_told = told.is_told; inside = told.inside; event = changes.event; event_is = changes.event_is; changes = changes.change_is };
+      };
+      few = few;
+      is_kept =
+          answer_is bases change arm (replica_of node).state.kept answer (subst (λ area. IsAnsweredByArm area (replica_of node).state.kept change arm answer) in_use answered)
+          (λ loses. lost (λ keeps. loses (subst (λ area. KeepsChange area change arm) in_use keeps)));
+      keeps = keeps;
+    },
+    record {
       at_rest = rest;
       trusted = trusted;
       disk = record { reliable = reliable; clean = clean; area = area ∙ ap (area_for answer) in_use ∙ area_with answer bases };
       identity = identity ∙ ap (λ (n : ℕ). identity_of n who) (sym same);
       started_with = start;
-    };
-    keeps = keeps;
-  }
+    },
+  )
     where
       bases : ℕ
       bases = bases_behind table rows book who
 
       in_use : area_of (store_of node) ≡ area_by bases
-      in_use = told.beside.ahead.disk.area
+      in_use = beside.ahead.disk.area
 
 -- ---- the turn of a stop
 

@@ -100,20 +100,19 @@ pub record IsBeside {D : Type 0} (view : DiskView D) (table : Table) (rows : Lis
   pub few : book.members ≤ 7
   pub ahead : IsNodeAhead view table rows book who steps node
 
--- and is told of a cause
-pub record WasToldOf {D : Type 0} (view : DiskView D) (table : Table) (rows : List Row) (book : BookState) (who : ℕ) (steps : List Taken)
-    (node : Node D) (cause : Cause) (input : Input) : Type 0 where
-  pub beside : IsBeside view table rows book who steps node
+-- a replica that is so many steps ahead of a book, behind which these rows stand, is told of a cause
+pub record WasToldOf (table : Table) (rows : List Row) (book : BookState) (who : ℕ) (steps : List Taken) (cause : Cause) (input : Input) : Type 0 where
   pub is_told : IsToldOf book.letters (waits_behind steps (waits_in table rows book who)) who cause input
   pub inside : IsInputInside table input
 
--- it may step for the cause: it is told of it beside a book of at most so many turns, and is few steps ahead
+-- a node may step for the cause: its replica is told of it beside a book of at most so many turns, and is few steps ahead
 pub record MayStep {D : Type 0} (view : DiskView D) (table : Table) (turns : ℕ) (node : Node D) (cause : Cause) (input : Input) : Type 0 where
   pub rows : List Row
   pub book : BookState
   pub who : ℕ
   pub steps : List Taken
-  pub told : WasToldOf view table rows book who steps node cause input
+  pub beside : IsBeside view table rows book who steps node
+  pub told : WasToldOf table rows book who steps cause input
   pub counted : length book.turns ≤ turns
   pub few : length steps < 2 ^ 31
 

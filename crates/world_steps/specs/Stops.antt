@@ -6,6 +6,7 @@ use Rattle.disk_model.specs.declared.armed.Arm.{Arm}
 use Rattle.disk_model.specs.View.{DiskView}
 use Rattle.due_set.specs.Table.{Table}
 use Rattle.paxos_base.specs.declared.durable.Delta.{Delta}
+use Rattle.paxos_base.specs.declared.durable.Durable.{Durable}
 use Rattle.save_calls.specs.Save.{calls_of_delta, is_kept}
 use Rattle.step_spec.specs.Folds.{deltas_of}
 use Rattle.step_spec.specs.State.{started}
@@ -54,29 +55,36 @@ pub record IsNextStop (table : Table) (rows : List Row) (book : BookState) (who 
   pub me : old.identity.me ≡ who
   pub began : BeganStep table book.letters (waits_in table rows book who) who cause old change
 
--- The node of one of so many replicas that has stopped and was attached again: it keeps this, and has kept so many bases.
-pub record IsAttached {D : Type 0} (view : DiskView D) (table : Table) (members who bases : ℕ) (node : Node D) : Type 0 where
+-- The node of a replica that has stopped within a step beside the book was attached again: it has kept the bases that these rows leave it,
+-- with the change that is answered.
+pub record IsAttached {D : Type 0} (view : DiskView D) (table : Table) (rows : List Row) (book : BookState) (who : ℕ) (answer : Option Delta)
+    (node : Node D) : Type 0 where
   pub at_rest : IsNodeAtRest view table node
   pub trusted : view.honest (disk_of node)
-  pub disk : IsDiskAt view bases node
-  pub identity : (replica_of node).identity ≡ identity_of members who
+  pub disk : IsDiskAt view (bases_with (option_to_list answer) (bases_behind table rows book who)) node
+  pub identity : (replica_of node).identity ≡ identity_of book.members who
   pub started_with : (replica_of node).state ≡ started who (replica_of node).state.kept
 
 -- **The disk has stopped within the save of the step's change**: there were too few calls left, and the numbers of the arm say whether the
--- change is kept. The node is attached again, and keeps what it kept before the step, with the change or without.
-pub record HasStopped {D : Type 0} (view : DiskView D) (table : Table) (rows : List Row) (book : BookState) (who : ℕ) (cause : Cause) (arm : Arm)
-    (answer : Option Delta) (node : Node D) : Type 0 where
+-- change is kept. The replica keeps what it kept before the step, with the change or without.
+pub record HasStopped (table : Table) (rows : List Row) (book : BookState) (who : ℕ) (cause : Cause) (arm : Arm) (answer : Option Delta)
+    (kept : Durable) : Type 0 where
   pub old : ReplicaState
   pub change : Delta
   pub next : IsNextStop table rows book who cause old change
   pub few : arm.left < calls_of_delta change
   pub is_kept : answer ≡ change_kept (is_kept (bases_behind table rows book who) change arm.left arm.image) change
-  pub attached : IsAttached view table book.members who (bases_with (option_to_list answer) (bases_behind table rows book who)) node
-  pub keeps : (replica_of node).state.kept ≡ kept_after answer old.state.kept
+  pub keeps : kept ≡ kept_after answer old.state.kept
 
--- what came of a step on a disk that is armed so, or not: it was taken, and the calls that were left were enough, or the disk has stopped
-abbrev pub HasOutcome : {D : Type 0} → (view : DiskView D) → Table → List Row → BookState → (who : ℕ) → Cause → Option Arm → Outcome → Node D → Type 0
-HasOutcome view table rows book who cause arm (Taken taken) node =
-    (taken.cause ≡ cause) × IsEnough (armed_in arm) (option_to_list taken.out.delta) × IsBeside view table rows book who (taken ∷ []) node
-HasOutcome view table rows book who cause arm (Stopped answer) node =
-    (some : Arm) × (arm ≡ Some some) × HasStopped view table rows book who cause some answer node
+-- What came of a step on a disk that is armed so, or not: it was taken, and the calls that were left were enough, or the disk has stopped, and
+-- the replica keeps this.
+abbrev pub HasOutcome : Table → List Row → BookState → (who : ℕ) → Cause → Option Arm → Outcome → (kept : Durable) → Type 0
+HasOutcome table rows book who cause arm (Taken taken) kept =
+    (taken.cause ≡ cause) × IsEnough (armed_in arm) (option_to_list taken.out.delta)
+HasOutcome table rows book who cause arm (Stopped answer) kept =
+    (some : Arm) × (arm ≡ Some some) × HasStopped table rows book who cause some answer kept
+
+-- and the node behind it: it is the step ahead of the book, or was attached again
+abbrev pub IsNodeAfter : {D : Type 0} → (view : DiskView D) → Table → List Row → BookState → (who : ℕ) → Outcome → Node D → Type 0
+IsNodeAfter view table rows book who (Taken taken) node = IsBeside view table rows book who (taken ∷ []) node
+IsNodeAfter view table rows book who (Stopped answer) node = IsAttached view table rows book who answer node

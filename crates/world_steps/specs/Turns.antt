@@ -1,5 +1,5 @@
 -- A step that becomes a turn of a book.
-use Rattle.std.specs.Prelude.{◌≡◌, ℕ, ◌-◌, ◌≤◌, List, [], ◌∷◌, ◌++◌, Option, None, Some, IfSome, false, slice_get}
+use Rattle.std.specs.Prelude.{◌≡◌, ℕ, ◌-◌, ◌≤◌, List, [], ◌∷◌, ◌++◌, Option, None, Some, false, slice_get}
 use Rattle.cluster_sched.specs.declared.fate.Fate.{Fate}
 use Rattle.cluster_sched.specs.declared.fate.Fate.TheVariants as becomes
 use Rattle.disk_model.specs.declared.armed.Arm.{Arm}
@@ -35,22 +35,20 @@ pub record MayJoin (table : Table) (book : BookState) (who : ℕ) (taken : Taken
   pub new : ReplicaState
   pub next : IsNextStep table rows book who taken old new
 
--- The step's turn has joined the book, with the call that was made for it, of which this was to become.
-pub record HasJoined (table : Table) (rows : List Row) (old new : BookState) (who : ℕ) (taken : Taken) (fate : Fate) (made : Option CallRow)
-    (row : Row) : Type 0 where
+-- The step's turn has joined the book, with the call that was made for it.
+pub record HasJoined (table : Table) (rows : List Row) (old new : BookState) (who : ℕ) (taken : Taken) (made : Option CallRow) (row : Row) : Type 0 where
   pub turn : row.turn ≡ Did who taken.cause made
   pub letters : row.letters ≡ taken.out.letters
-  pub fated : IfSome made (λ call. call.fate ≡ fate)
   pub behind : StandsBehind table (rows ++ row ∷ []) new
   pub rest : new.pending ≡ None
   pub members : new.members ≡ old.members
   pub has : HasLetters old.letters new
 
 -- and the replica stands where that leaves it
-pub record HasJoinedAt (table : Table) (rows : List Row) (old new : BookState) (who : ℕ) (taken : Taken) (fate : Fate) (made : Option CallRow)
+pub record HasJoinedAt (table : Table) (rows : List Row) (old new : BookState) (who : ℕ) (taken : Taken) (made : Option CallRow)
     (replica : ReplicaState) : Type 0 where
   pub row : Row
-  pub joined : HasJoined table rows old new who taken fate made row
+  pub joined : HasJoined table rows old new who taken made row
   pub stands : StandsAt table (rows ++ row ∷ []) new replica
 
 -- ---- what is set for the replica

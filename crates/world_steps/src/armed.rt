@@ -1,9 +1,10 @@
 //! A step on a disk that is armed.
 ghost use Rattle.std.specs.Prelude.{◌≡◌, ◌<◌, ◌≤◌, ◌^◌, [], ℕ, List, Some, IfOk};
 ghost use Rattle.history.specs.Book.{Row};
+ghost use Rattle.replica_node.specs.Node.{replica_of};
 ghost use Rattle.world_law.specs.Book.{BookState};
-ghost use Rattle.world_steps.specs.Steps.{MayStep, WasToldOf};
-ghost use Rattle.world_steps.specs.Stops.{HasOutcome};
+ghost use Rattle.world_steps.specs.Steps.{IsBeside, MayStep, WasToldOf};
+ghost use Rattle.world_steps.specs.Stops.{HasOutcome, IsNodeAfter};
 
 use crate::fault::memory_of;
 use crate::steps::{MOST_TURNS, Taken, take_step};
@@ -40,8 +41,9 @@ fn take_armed<D: ArmedDisk>(
     requires few { members ≤ 7 }
     requires may { (turns : ℕ) × (turns < 2 ^ 31) × MayStep D.view table.now turns node.old cause input }
     ensures ended { IfOk result (λ ended. (rows : List Row) (book : BookState) → book.members ≡ members
-        → WasToldOf D.view table.now rows book who [] node.old cause input.entry
-        → HasOutcome D.view table.now rows book who cause (Some arm) ended node.new) }
+        → IsBeside D.view table.now rows book who [] node.old → WasToldOf table.now rows book who [] cause input.entry
+        → HasOutcome table.now rows book who cause (Some arm) ended (replica_of node.new).state.kept
+        × IsNodeAfter D.view table.now rows book who ended node.new) }
 {
     node.arm(arm.left, arm.image);
     let fault = match node.handle(table, input) {
@@ -81,8 +83,9 @@ pub fn take_by_arm<D: ArmedDisk>(
     requires few { members ≤ 7 }
     requires may { MayStep D.view table.now turns node.old cause input }
     ensures ended { IfOk result (λ ended. (rows : List Row) (book : BookState) → book.members ≡ members
-        → WasToldOf D.view table.now rows book who [] node.old cause input.entry
-        → HasOutcome D.view table.now rows book who cause arm ended node.new) }
+        → IsBeside D.view table.now rows book who [] node.old → WasToldOf table.now rows book who [] cause input.entry
+        → HasOutcome table.now rows book who cause arm ended (replica_of node.new).state.kept
+        × IsNodeAfter D.view table.now rows book who ended node.new) }
 {
     if turns >= MOST_TURNS {
         return Err(OutOfMemory);

@@ -39,7 +39,7 @@ pub fn take_step<D: Disk>(
     requires may { MayStep D.view table.now turns node.old cause input }
     ensures cause { IfOk result (λ taken. taken.cause ≡ cause) }
     ensures beside { IfOk result (λ taken. (rows : List Row) (book : BookState) (who : ℕ) (steps : List Step)
-        → WasToldOf D.view table.now rows book who steps node.old cause input.entry
+        → IsBeside D.view table.now rows book who steps node.old → WasToldOf table.now rows book who steps cause input.entry
         → IsBeside D.view table.now rows book who (steps ++ taken ∷ []) node.new) }
 {
     if turns >= MOST_TURNS {

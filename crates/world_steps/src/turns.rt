@@ -65,7 +65,8 @@ pub fn commit_step(
 ) -> Result<Option<CallRow>, OutOfMemory>
     requires may { MayJoin table.now book.old who taken }
     ensures joined { IfOk result (λ made. (rows : List Row) (old new : ReplicaState) → IsNextStep table.now rows book.old who taken old new
-        → HasJoinedAt table.now rows book.old book.new who taken fate made new) }
+        → HasJoinedAt table.now rows book.old book.new who taken made new) }
+    ensures fate { IfOk result (λ made. IfSome made (λ call. call.fate ≡ fate)) }
     ensures legal { OnErr result (IsLegalBook table.now book.new) }
 {
     book.reserve(&taken.out)?;

@@ -13,7 +13,8 @@ take_step-requires g c =
         book = c.args.book.now;
         who = c.requires.told.1;
         steps = c.args.steps.now.items;
-        told = c.requires.told.2;
+        beside = c.requires.told.2;
+        told = c.requires.told.3;
         counted = omega (arith, ap length c.turns.ensures);
         few = steps;
       };
@@ -26,6 +27,6 @@ returns-clause-causes g c =
 
 pub returns-clause-beside : goal.returns-clause-beside
 returns-clause-beside g c =
-    λ rows who told.
+    λ rows who beside told.
     subst (λ steps. IsBeside g.D.Disk.view c.args.table.now rows c.args.book.now who steps c.take_step.new.node) (sym c.in_ok-push.ensures.items)
-    (c.in_ok-taken.ensures.beside rows c.args.book.now who c.args.steps.now.items told)
+    (c.in_ok-taken.ensures.beside rows c.args.book.now who c.args.steps.now.items beside told)

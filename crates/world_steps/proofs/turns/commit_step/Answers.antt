@@ -26,6 +26,6 @@ pub returns-clause-joined : goal.returns-clause-joined
 returns-clause-joined c =
     λ rows old new next.
     let alike = next_alike c.args.table.now rows c.args.book.now c.reserve.new.self c.args.who c.args.taken old new c.reserve.ensures.same next in
-    has_joined c.args.table.now rows c.args.book.now c.reserve.new.self c.call_for.new.book _ c.args.who c.args.taken old new c.args.fate c.in_ok-call.call next c.reserve.ensures.same
-    c.in_ok-call.ensures.members c.in_ok-call.ensures.letters (c.call_for.ensures.stands rows alike.behind) (c.in_ok-call.ensures.made rows alike.behind) c.in_ok-call.ensures.fate
+    has_joined c.args.table.now rows c.args.book.now c.reserve.new.self c.call_for.new.book _ c.args.who c.args.taken old new c.in_ok-call.call next c.reserve.ensures.same
+    c.in_ok-call.ensures.members c.in_ok-call.ensures.letters (c.call_for.ensures.stands rows alike.behind) (c.in_ok-call.ensures.made rows alike.behind)
     c.commit.ensures.commits c.commit.ensures.stands

@@ -1,6 +1,6 @@
 use Rattle.std.proofs.Common.{◌∙◌, refl}
 use Rattle.world_free.specs.Plan.{FreePlan, plan_of}
-use Rattle.world_free.proofs.Stepping.{few_members, is_member, may_step, members_then, tried, was_told}
+use Rattle.world_free.proofs.Stepping.{beside, few_members, is_member, may_step, members_then, tried, was_told}
 use Rattle.world_free.proofs.job.FreeJob.step.Goals as goal
 
 pub next_cause-cause-requires-clause-small : goal.next_cause-cause-requires-clause-small
@@ -22,10 +22,10 @@ returns g c = record {
   steps = λ book situation runner.
       let plan : FreePlan = plan_of c.args.table.now book situation c.args.setting.now in
       let is = c.next_cause-cause.ensures.cause ∙ rw (c.window.ensures.window, c.term.ensures, c.replica.ensures) refl in
-      tried g.D.Disk.view plan book c.args.who c.args.turn c.args.self.now runner c.next_cause-cause.result c.in_ok-ended.ended _ is
-      c.requires.left
-      (c.in_ok-ended.ensures.ended _ _
+      let came = c.in_ok-ended.ensures.ended _ _
       (members_then g.D.Disk.view plan book c.args.who c.args.turn c.args.self.now runner)
-      (was_told g.D.Disk.view plan book c.args.who c.args.turn c.args.self.now runner c.next_cause-cause.result c.input_for-input.result is c.input_for-input.ensures.told))
-      refl refl;
+      (beside g.D.Disk.view plan book c.args.who c.args.turn c.args.self.now runner)
+      (was_told g.D.Disk.view plan book c.args.who c.args.turn c.args.self.now runner c.next_cause-cause.result c.input_for-input.result is c.input_for-input.ensures.told) in
+      tried g.D.Disk.view plan book c.args.who c.args.turn c.args.self.now runner c.next_cause-cause.result c.in_ok-ended.ended _ is
+      c.requires.left came.0 came.1 refl refl;
 }

@@ -13,8 +13,9 @@ keep_step-requires g c =
       told = (
         may.rows,
         may.who,
-        told_tick g.D.Disk.view c.args.table.now c.args.book.now may.rows may.who c.hear_letters.new.steps.items c.hear_letters.new.node c.reading_of-now.result
-            c.args.at.0 c.args.self.now.mail.skew (rw (sym c.window.ensures.window) c.window.ensures.limits.ordered) heard (rw (sym c.window.ensures.window) c.reading_of-now.ensures.reading),
+        heard,
+        told_tick g.D.Disk.view c.args.table.now c.args.book.now may.rows may.who c.hear_letters.new.steps.items c.reading_of-now.result
+            c.args.at.0 c.args.self.now.mail.skew (rw (sym c.window.ensures.window) c.window.ensures.limits.ordered) (rw (sym c.window.ensures.window) c.reading_of-now.ensures.reading),
       );
     }
 
@@ -24,10 +25,10 @@ returns g c = record {
       let answered = c.in_ok-take_answer.ensures.beside rows who (may_answer g.D.Disk.view c.args.table.now c.args.book.now rows situation who c.args.self.now idle c.if-not-self.false) in
       let hears = may_hear g.D.Disk.view c.args.table.now c.args.book.now rows situation who c.args.self.now c.take_answer.new.steps.items c.take_answer.new.node idle answered in
       let heard = c.in_ok-hear_letters.ensures.beside rows who (rw c.deref.ensures.value hears) in
-      let told = told_tick g.D.Disk.view c.args.table.now c.args.book.now rows who c.hear_letters.new.steps.items c.hear_letters.new.node c.reading_of-now.result
-      c.args.at.0 c.args.self.now.mail.skew (rw (sym c.window.ensures.window) c.window.ensures.limits.ordered) heard (rw (sym c.window.ensures.window) c.reading_of-now.ensures.reading) in
+      let told = told_tick g.D.Disk.view c.args.table.now c.args.book.now rows who c.hear_letters.new.steps.items c.reading_of-now.result
+      c.args.at.0 c.args.self.now.mail.skew (rw (sym c.window.ensures.window) c.window.ensures.limits.ordered) (rw (sym c.window.ensures.window) c.reading_of-now.ensures.reading) in
       round_taken g.D.Disk.view c.args.table.now c.args.book.now rows situation who c.args.at.0 c.reading_of-now.result c.args.self.now _ idle c.if-not-self.false
-      (c.in_ok-keep_step.ensures.beside rows who told)
+      (c.in_ok-keep_step.ensures.beside rows who heard told)
       (c.in_ok-keep_step.ensures.causes ∙ ap (λ causes. causes ++ Tick c.reading_of-now.result ∷ []) (c.in_ok-hear_letters.ensures.causes ∙ rw (c.in_ok-take_answer.ensures.causes, c.deref.ensures.value) refl))
       (rw (sym c.window.ensures.window) c.reading_of-now.ensures.reading) c.clear.ensures.items refl refl refl refl refl;
 }

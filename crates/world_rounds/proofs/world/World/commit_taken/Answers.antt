@@ -1,7 +1,6 @@
-use Rattle.std.proofs.Common.{◌≡◌, Some, length, refl, subst}
+use Rattle.std.proofs.Common.{◌≡◌, IfSome, Some, length, refl, subst}
 use Rattle.std.specs.List.{slice_get}
 use Rattle.std.proofs.lemmas.Option.{slice_get_read}
-use Rattle.world_steps.specs.Turns.{HasJoinedAt}
 use Rattle.world_rounds.proofs.Worlds.{may_join, some_same, world_did}
 use Rattle.world_rounds.proofs.world.World.commit_taken.Goals as goal
 
@@ -27,7 +26,5 @@ returns-clause-did g c =
     let same : c.index.result.now ≡ c.index_mut.result.now = some_same (slice_get c.args.self.now.members.items c.args.who) c.index.result.now c.index_mut.result.now one there in
     world_did g.D.Disk.view c.args.table.now rows c.args.self.now _ situation ahead_by c.args.who c.args.taken more c.index_mut.result.now c.in_ok-call.call
     ahead mine there
-    (λ rows old new next.
-    subst (λ member. HasJoinedAt c.args.table.now rows c.args.self.now.book c.commit_step.new.book c.args.who c.args.taken member.mail.fate c.in_ok-call.call new) same
-    (c.in_ok-call.ensures.joined rows old new next))
+    c.in_ok-call.ensures.joined (subst (λ member. IfSome c.in_ok-call.call (λ call. call.fate ≡ member.mail.fate)) same c.in_ok-call.ensures.fate)
     (rw (c.note_step.ensures.noted, c.calls_to_save-calls.ensures.calls) refl) refl c.reading_with-self.ensures.latest
