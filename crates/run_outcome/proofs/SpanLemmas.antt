@@ -11,7 +11,8 @@ use Rattle.script_semantics.specs.Situation.{Performs, Situation, Task}
 use Rattle.script_semantics.specs.Settling.{IsDrainRound, campaign_tasks}
 use Rattle.script_semantics.specs.Round.{round_tasks}
 use Rattle.settling.specs.Rounds.{GoesOnWithin, IsFaultless, IsWithinBounds}
-use Rattle.settling.proofs.BookLemmas.{front_legal, stand_after}
+use Rattle.history.proofs.FrontLemmas.{front_legal}
+use Rattle.settling.proofs.BookLemmas.{stand_after}
 use Rattle.settling.proofs.RoundsLemmas.{front_bounds}
 use Rattle.run_outcome.proofs.PartLemmas.{Comes}
 

@@ -1,6 +1,5 @@
 -- One replica without jobs settles by one turn.
-use Rattle.std.proofs.Common.{◌≡◌, ℕ, zero, suc, pos, Some, None, List, [], ◌∷◌, refl, subst, arith, lit<}
-use Rattle.std.specs.List.{slice_get}
+use Rattle.std.proofs.Common.{◌≡◌, zero, suc, pos, Some, None, List, [], ◌∷◌, refl, subst, arith, lit<}
 use Rattle.std.proofs.lemmas.Int.{ints}
 use Rattle.launch_machine.specs.Clerk.{first_rows}
 use Rattle.paxos_base.specs.Durable.{after_delta}
@@ -18,6 +17,7 @@ use Rattle.history.specs.declared.turn.Turn.TheVariants.{Did}
 use Rattle.script_semantics.specs.Script.{Obeys}
 use Rattle.script_semantics.specs.Settling.{IsQuiet, cleared}
 use Rattle.script_semantics.specs.Situation.{Situation, after_turns, delivered, first_situation}
+use Rattle.script_semantics.proofs.SomeParts.{nothing_found}
 
 abbrev stands_for : Row
 stands_for = record { turn = Did 0 cause.Campaign None; event = Campaign; letters = []; votes = []; learnt = [] }
@@ -46,9 +46,6 @@ settled_first = cleared (delivered 0 (first_situation 1 no_jobs))
 
 abbrev led : Situation
 led = delivered 0 (after_turns 1 settled_first some_rows)
-
-nothing_found : {X : Type 0} {x : X} (k : ℕ) → slice_get [] k ≡ Some x → ⊥
-nothing_found k is = cc
 
 is_quiet : IsQuiet 1 no_jobs 0 (pos 0) led
 unfolding step campaign after_row after_act after_delta deltas_by learnt_by calls_by sent_by with_member votes_from

@@ -1,7 +1,6 @@
 -- One replica without jobs stops within its campaign, keeps the ballot that it tried, and settles by another campaign.
-use Rattle.std.proofs.Common.{◌≡◌, ℕ, pos, true, Some, None, List, [], ◌∷◌, inr, refl, arith, lit<}
+use Rattle.std.proofs.Common.{◌≡◌, pos, true, Some, None, List, [], ◌∷◌, inr, refl, arith, lit<}
 use Rattle.std.proofs.lemmas.Int.{ints}
-use Rattle.std.specs.List.{slice_get}
 use Rattle.launch_machine.specs.Clerk.{first_rows}
 use Rattle.paxos_base.specs.Durable.{after_delta}
 use Rattle.paxos_base.specs.Members.{with_member}
@@ -24,6 +23,7 @@ use Rattle.script_semantics.specs.Arms.{StopsInStep, armed_by}
 use Rattle.script_semantics.specs.Script.{ArePartsOf, Obeys}
 use Rattle.script_semantics.specs.Settling.{IsQuiet, Walks, cleared}
 use Rattle.script_semantics.specs.Situation.{Situation, after_turns, delivered, first_situation}
+use Rattle.script_semantics.proofs.SomeParts.{nothing_found}
 
 abbrev row_of : Turn → Row
 row_of turn = record { turn = turn; event = Campaign; letters = []; votes = []; learnt = [] }
@@ -77,9 +77,6 @@ started = delivered 0 (after_turns 1 stopped (starts ∷ []))
 
 abbrev led : Situation
 led = delivered 0 (after_turns 1 (cleared started) (stands ∷ []))
-
-nothing_found : {X : Type 0} {x : X} (k : ℕ) → slice_get [] k ≡ Some x → ⊥
-nothing_found k is = cc
 
 stops_there : StopsInStep 1 armed 0 cause.Campaign stops
 unfolding step campaign deltas_by with_member

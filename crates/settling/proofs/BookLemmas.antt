@@ -11,7 +11,6 @@ use Rattle.step_spec.specs.Letters.{are_small}
 use Rattle.agreement.specs.Transition.{identity_of}
 use Rattle.history.specs.Book.{Row, Standing, after_row, first_standing, standing_after}
 use Rattle.history.specs.Legal.{IsLegal, MayFollow}
-use Rattle.history.proofs.Agreement.{cut_is_legal}
 use Rattle.history.proofs.Turns.{AllFollow, after_rows}
 use Rattle.history.proofs.BookLemmas.{stands}
 use Rattle.history.proofs.Heard.{letters_small}
@@ -50,10 +49,6 @@ letters_are_whole members table book few sound legal limits letter has packets s
     let fewer : length packets < 2 ^ 31 = omega (arith, long, small_bytes) in
     and_from (ltb (length packets) (2 ^ 31)) (are_small (length table.jobs) packets) (lt-ltb (length packets) (2 ^ 31) fewer)
     (letters_small members table book letter packets few sound legal limits.turns has spells)
-
-pub front_legal : (members : ℕ) (table : Table) (book rows : List Row) → IsLegal members table (book ++ rows) → IsLegal members table book
-front_legal members table book rows legal =
-    subst (λ front. IsLegal members table front) (take_front book rows) (cut_is_legal members table (book ++ rows) (length book) legal)
 
 pub book_coherent : (members : ℕ) (table : Table) (book : List Row) (who : ℕ) → members ≤ 7 → IsLegal members table book → who < members
     → IsCoherent (identity_of members who) ((standing_after members (first_rows table) book).replicas who)

@@ -17,7 +17,8 @@ use Rattle.script_semantics.specs.Situation.{Performs, Situation, Task, Do, afte
 use Rattle.settling.specs.Leads.{GoesDrainRound}
 use Rattle.settling.specs.Rounds.{GoesOnWithin, GoesRound, IsFaultless, IsWithinBounds}
 use Rattle.settling.specs.Stands.{IsLetterAt, StandsForCluster}
-use Rattle.settling.proofs.BookLemmas.{front_legal, stand_after}
+use Rattle.history.proofs.FrontLemmas.{front_legal}
+use Rattle.settling.proofs.BookLemmas.{stand_after}
 use Rattle.settling.proofs.ClusterLemmas.{round_leaves_no_fault}
 use Rattle.settling.proofs.RoundsLemmas.{front_bounds}
 use Rattle.settling.specs.Campaigns.{GoesCampaign, unanswered}

@@ -16,7 +16,8 @@ use Rattle.script_semantics.specs.Situation.{Situation, after_turns, delivered, 
 use Rattle.settling.specs.Rounds.{GoesRound, IsFaultless, IsWithinBounds, StandsForRound}
 use Rattle.settling.specs.Stands.{IsLetterAt, StandsForCluster}
 use Rattle.settling.proofs.AllLemmas.{BeginsPart, HadPart, HadParts, all_parts}
-use Rattle.settling.proofs.BookLemmas.{all_follow, book_coherent, front_legal, letters_are_whole, stand_after}
+use Rattle.history.proofs.FrontLemmas.{front_legal}
+use Rattle.settling.proofs.BookLemmas.{all_follow, book_coherent, letters_are_whole, stand_after}
 use Rattle.settling.proofs.DeliverLemmas.{letters_join}
 use Rattle.settling.proofs.PassLemmas.{whole_right}
 use Rattle.settling.proofs.PostLemmas.{AreWhole}

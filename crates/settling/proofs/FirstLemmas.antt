@@ -18,7 +18,7 @@ use Rattle.script_semantics.specs.Settling.{coordinator}
 use Rattle.script_semantics.specs.Situation.{Situation}
 use Rattle.script_semantics.proofs.CoordinatorLemmas.{furthest_most, furthest_within}
 use Rattle.settling.specs.Stands.{IsLetterAt, StandsForCluster}
-use Rattle.settling.proofs.BookLemmas.{front_legal}
+use Rattle.history.proofs.FrontLemmas.{front_legal}
 use Rattle.settling.specs.Campaigns.{GoesCampaign, unanswered}
 use Rattle.settling.specs.Within.{LeadsWithin}
 use Rattle.settling.proofs.TriedLemmas.{next_is_new}

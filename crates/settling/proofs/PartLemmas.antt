@@ -1,6 +1,6 @@
 -- What one replica does in a round: it takes an answer, hears its mail, and its clock ticks.
-use Rattle.std.proofs.Common.{◌≡◌, ℕ, zero, suc, Option, None, Some, IfSome, List, [], ◌∷◌, ◌++◌, length, drop, ℤ, refl, sym, ap, ◌∙◌, subst}
-use Rattle.std.specs.List.{AllZip, slice_get}
+use Rattle.std.proofs.Common.{◌≡◌, ℕ, Option, None, Some, IfSome, List, [], ◌∷◌, ◌++◌, length, drop, ℤ, refl, sym, ap, ◌∙◌, subst}
+use Rattle.std.specs.List.{AllZip}
 use Rattle.std.proofs.lemmas.Bool.{eq-eqb}
 use Rattle.cluster_sched.specs.declared.fate.Fate.{Fate}
 use Rattle.cluster_sched.specs.declared.fate.Fate.TheVariants as fate
@@ -25,15 +25,11 @@ use Rattle.synchronous_rounds.specs.Cluster.{Advice, HeardLetter, after_events, 
 use Rattle.synchronous_rounds.specs.Rounds.{IsAnswerTo}
 use Rattle.script_semantics.specs.Round.{answer_tasks, hear_tasks}
 use Rattle.script_semantics.specs.Situation.{AreTurnsFor, Situation, Task, Do, Does, after_turn, after_turns, mails_after}
+use Rattle.step_spec.proofs.ListLemmas.{found_still}
 use Rattle.settling.specs.Stands.{IsLetterAt}
 use Rattle.settling.proofs.NameLemmas.{made_answer}
 use Rattle.settling.proofs.PassLemmas.{Passes, pass_join, pass_none, turn_passes}
 use Rattle.launch_machine.proofs.IntentLemmas.{same_some}
-
-pub front_has : {X : Type 0} (front back : List X) (number : ℕ) (x : X) → slice_get front number ≡ Some x → slice_get (front ++ back) number ≡ Some x
-front_has [] back number x is = absurd cc
-front_has (y ∷ front) back zero x is = is
-front_has (y ∷ front) back (suc number) x is = front_has front back number x is
 
 -- The first turns are those of a replica that has taken the events, with this mail left; then come those of the tasks that are left.
 pub record Part (members : ℕ) (table : Table) (who : ℕ) (events : List Event) (mail : List ℕ) (tasks : List Task) (situation : Situation) (rows : List Row) : Type 0 where
@@ -119,7 +115,7 @@ zip_posted members jobs posted more who [] [] zips = zips
 zip_posted members jobs posted more who [] (letter ∷ letters) zips = absurd zips
 zip_posted members jobs posted more who (number ∷ numbers) [] zips = absurd zips
 zip_posted members jobs posted more who (number ∷ numbers) (letter ∷ letters) (one, zips) = (
-  record { sent = one.sent; there = front_has posted more number one.sent one.there; to = one.to; heard = one.heard },
+  record { sent = one.sent; there = found_still posted more number one.sent one.there; to = one.to; heard = one.heard },
   zip_posted members jobs posted more who numbers letters zips,
 )
 

@@ -6,10 +6,9 @@ use Rattle.std.proofs.lemmas.List.Elements.{Contains-append_left, Contains-appen
 use Rattle.cluster_sched.specs.declared.fate.Fate.TheVariants as fate
 use Rattle.due_set.specs.Table.{Table}
 use Rattle.step_spec.specs.Folds.{sent_to}
-use Rattle.step_spec.specs.State.{Identity, State}
+use Rattle.step_spec.specs.State.{Identity}
 use Rattle.step_spec.specs.Step.{Event}
 use Rattle.agreement.specs.Transition.{identity_of}
-use Rattle.agreement.specs.World.{with_replica}
 use Rattle.history.specs.Book.{PostedLetter, Row, after_row, answer_to, post, with_fact}
 use Rattle.history.specs.Legal.{MayFollow}
 use Rattle.history.specs.declared.turn.CallRow.{CallRow}
@@ -22,6 +21,7 @@ use Rattle.synchronous_rounds.proofs.MailLemmas.{letters_append}
 use Rattle.script_semantics.specs.Situation.{Situation, after_turn, fates_after, mails_after}
 use Rattle.settling.specs.Stands.{IsHeardLike}
 use Rattle.settling.proofs.PostLemmas.{AreWhole, is_to, one_to}
+use Rattle.history.proofs.Acts.{with_here}
 use Rattle.history.proofs.FrontLemmas.{replica_there}
 use Rattle.history.proofs.Standings.{fact_there}
 use Rattle.synchronous_rounds.proofs.SomeIdle.{planned_append as planned_join}
@@ -101,9 +101,6 @@ pass_join members table jobs who xs ys before middle after one two =
 
 -- ---- one turn
 
-replica_here : (who : ℕ) (state : State) (replicas : ℕ → State) → with_replica who state replicas who ≡ state
-replica_here who state replicas = rw (eq-eqb who who refl) refl
-
 fates_done : (who : ℕ) (cause : Cause) (made : Option CallRow) (situation : Situation) (other : ℕ) → situation.fates other ≡ fate.Done
     → fates_after (Did who cause made) situation.fates other ≡ fate.Done
 fates_done who cause None situation other is = is
@@ -127,7 +124,7 @@ did_passes : (members : ℕ) (table : Table) (jobs who : ℕ) (cause : Cause) (m
     → Passes members table jobs who (row.event ∷ []) situation (after_did members situation who cause made row)
 unfolding after_row
 did_passes members table jobs who cause made situation row member may = record {
-  replica = replica_here who _ situation.standing.replicas;
+  replica = with_here who _ situation.standing.replicas;
   others = λ other apart. replica_there who _ situation.standing.replicas other apart;
   waits = λ other apart. fact_there who (answer_to made) situation.standing.waits other apart;
   mails = λ other apart. mails_there who cause made situation.mails other apart;

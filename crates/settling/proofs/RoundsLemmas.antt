@@ -21,7 +21,8 @@ use Rattle.script_semantics.specs.Situation.{Performs, Situation}
 use Rattle.script_semantics.proofs.ArmsLemmas.{unarmed_performed, unarmed_performs}
 use Rattle.settling.specs.Rounds.{GoesRound, GoesRounds, IsWithinBounds, StandsForRounds}
 use Rattle.settling.specs.Stands.{StandsForCluster}
-use Rattle.settling.proofs.BookLemmas.{front_legal, stand_after}
+use Rattle.history.proofs.FrontLemmas.{front_legal}
+use Rattle.settling.proofs.BookLemmas.{stand_after}
 use Rattle.settling.proofs.ClusterLemmas.{round_is_synchronous, round_leaves_no_fault}
 
 -- what was posted stays posted
