@@ -1,15 +1,13 @@
 -- What the report of a run tells of its launches.
-use Rattle.std.proofs.Common.{◌≡◌, ◌⊎◌, inl, inr, ℕ, List, refl, sym, ◌∙◌, subst, ℤ}
+use Rattle.std.proofs.Common.{◌≡◌, ℕ, List, refl, sym, ◌∙◌, subst}
 use Rattle.cron_io.specs.Views.{SourceView, SinkView}
 use Rattle.disk_model.specs.declared.mem_disk.MemDisk.{MemDisk}
-use Rattle.due_set.specs.Table.{Table, IsJobDue, IsRunByPeriod}
-use Rattle.paxos_base.specs.declared.rows.JobRow.{JobRow}
-use Rattle.launch_machine.specs.Clerk.{TakesStart}
-use Rattle.launch_machine.proofs.MachineLemmas.{opens_by_period}
+use Rattle.due_set.specs.Table.{Table}
 use Rattle.replica_node.specs.declared.node.Node.{Node}
 use Rattle.world_law.specs.Book.{BookState}
 use Rattle.report_text.specs.Report.{IsReport}
 use Rattle.report_text.proofs.BookLemmas.{of_ledger}
+use Rattle.run_outcome.proofs.WholeDates.{by_period_or_not}
 use Rattle.cron_serve.specs.Ends.{Ends}
 use Rattle.cron_serve.specs.Program.{EndsProgram}
 use Rattle.cron_serve.specs.Promise.{HasEachDue, HasOnlyDue, ReportsInput, ReportsLaunches}
@@ -19,13 +17,6 @@ use Rattle.cron_serve.specs.declared.words.Output.{Output}
 use Rattle.cron_serve.specs.declared.words.Output.TheVariants.{Report}
 use Rattle.cron_serve.proofs.WholeLemmas.{all_launched, backed, each_ended, each_within_grace, fitting}
 
--- a start is of a due instant, or of a job that runs by its period
-of_start : (table : Table) (rows : List JobRow) (job : ℕ) (at now : ℤ) → TakesStart table rows job at now → IsJobDue table job at ⊎ IsRunByPeriod table job
-of_start table rows job at now takes = elim takes.may [
-  | inl next ↦ inl next.0.due
-  | inr opens ↦ inr (opens_by_period table job takes.row.last takes.row.cursor now at opens)
-]
-
 module _ (bytes : List ℕ) (table : Table) (book : BookState) (nodes : List (Node MemDisk)) (run : IsRunOf bytes table book nodes) where
   each_due_ended : HasEachDue table book.ledger.held
   each_due_ended job at due = let (start, kind, ended, held) = each_ended bytes table book nodes run job at due in (kind, held)
@@ -33,7 +24,7 @@ module _ (bytes : List ℕ) (table : Table) (book : BookState) (nodes : List (No
   pub all_due : HasOnlyDue table book.ledger.held
   all_due row among =
       let (now, start) = (backed bytes table book nodes run row among).start in
-      of_start table start.takes.0 row.name.job row.name.at now start.takes.2
+      by_period_or_not table start.takes.0 row.name.job row.name.at now start.takes.2
 
   pub reports_launches : (text : List ℕ) → IsReport table book.members book.ledger.held text
       → ReportsLaunches table run.run.members run.run.commands text

@@ -60,7 +60,7 @@ date_unscripted n table rows job now date few legal obeyed by =
     ]
 
 -- the job of a row runs by its period, or is due at an instant
-by_period_or_not : (table : Table) (rows : List JobRow) (job : ℕ) (at now : ℤ) → TakesStart table rows job at now → IsJobDue table job at ⊎ IsRunByPeriod table job
+pub by_period_or_not : (table : Table) (rows : List JobRow) (job : ℕ) (at now : ℤ) → TakesStart table rows job at now → IsJobDue table job at ⊎ IsRunByPeriod table job
 by_period_or_not table rows job at now takes = elim takes.may [
   | inl next ↦ inl next.0.due
   | inr opens ↦ inr (opens_by_period table job takes.row.last takes.row.cursor now at opens)

@@ -17,7 +17,8 @@ use Rattle.world_law.specs.declared.row.BookRow.{BookRow}
 use Rattle.world_law.proofs.Settled.{alike_after}
 use Rattle.world_free.specs.Jobs.{IsOfPlan, situation_in}
 use Rattle.world_free.specs.Plan.{ArePlayed, FreePlan, SharedBook}
-use Rattle.world_free.proofs.Played.{begun_stands, front_legal, played_turns}
+use Rattle.history.proofs.FrontLemmas.{front_legal}
+use Rattle.world_free.proofs.Played.{begun_stands, played_turns}
 use Rattle.history.proofs.FrontLemmas.{follows_there as may_next}
 
 -- how many bases the replicas have kept by some rows

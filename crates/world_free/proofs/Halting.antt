@@ -8,8 +8,6 @@ use Rattle.paxos_base.specs.declared.durable.Delta.{Delta}
 use Rattle.save_calls.specs.Save.{is_kept}
 use Rattle.step_spec.specs.Folds.{deltas_of}
 use Rattle.step_spec.specs.State.{started}
-use Rattle.step_spec.specs.Step.{Event}
-use Rattle.step_spec.specs.declared.out.OutLetter.{OutLetter}
 use Rattle.agreement.specs.Transition.{identity_of}
 use Rattle.history.specs.Book.{Row, Standing, acts_at, after_row, standing_after}
 use Rattle.history.specs.Legal.{IsLegal, MayFollow, TakesTurn}
@@ -49,7 +47,7 @@ use Rattle.world_free.proofs.Letters.{no_letters}
 use Rattle.world_free.proofs.Lists.{zip_join}
 use Rattle.world_free.proofs.Played.{played_stand, situation_stands}
 use Rattle.world_free.proofs.Since.{IsHere, Lately, bases_here, changes_before, changes_seen, few_here, input_here, is_then, lately, left_by, still_at, takes_here, told_here}
-use Rattle.history.proofs.Standings.{fact_here}
+use Rattle.history.proofs.Standings.{fact_here, waits_stopped}
 
 -- ---- what a stop leaves
 
@@ -64,11 +62,6 @@ stop_bases : (who : ℕ) (cause : Cause) (change : Delta) (answer : Option Delta
 stop_bases who cause change answer bases (inl kept) =
     rw kept (fact_here who (bases_with (change ∷ []) (bases who)) bases)
 stop_bases who cause change answer bases (inr lost) = rw lost refl
-
-stop_waits : (n : ℕ) (s : Standing) (who : ℕ) (cause : Option Cause) (kept : Bool) (event : Event) (letters : List OutLetter)
-    → (after_row n s (Stopped who cause kept) event letters).waits who ≡ None
-unfolding after_row
-stop_waits n s who cause kept event letters = fact_here who None s.waits
 
 module _ {D : Type 0} (view : DiskView D) (plan : FreePlan) (book : SharedBook) (who taken : ℕ) (cause : Cause)
     (change : Option Delta) (job : FreeJob D) (stopper : IsStopper view plan book who taken cause change job) (gone : List BookRow) (others : rows_by who gone ≡ [])
@@ -250,7 +243,7 @@ module _ {D : Type 0} (view : DiskView D) (plan : FreePlan) (book : SharedBook) 
       skew = halted.skew ∙ mail_was.skew ∙ ap (λ (skews : ℕ → ℤ). skews who) (sym left.skews) ∙ ap (λ (s : Situation). s.skews who) (sym then);
       small = subst IsSkew (sym halted.skew) mail_was.small;
       fate = halted.fate ∙ mail_was.fate ∙ sym left.fate ∙ ap (λ (turn : Turn). fates_after turn here_before.fates who) (sym late.is.turn_is) ∙ ap (λ (s : Situation). s.fates who) (sym then);
-      waits = halted.waits ∙ sym (stop_waits plan.book.members here_before.standing who (Some cause) (is_some change) late.row.event late.row.letters)
+      waits = halted.waits ∙ sym (waits_stopped plan.book.members here_before.standing who (Some cause) (is_some change) late.row.event late.row.letters)
           ∙ ap (λ (turn : Turn). (after_row plan.book.members here_before.standing turn late.row.event late.row.letters).waits who) (sym late.is.turn_is)
           ∙ ap (λ (s : Situation). s.standing.waits who) (sym then);
       arm = ap armed_in halted.arm ∙ sym (fact_here who None here_before.arms)

@@ -15,7 +15,7 @@ use Rattle.world_law.specs.declared.row.BookRow.{BookRow}
 use Rattle.world_law.proofs.Rows.{turns_behind}
 use Rattle.world_law.proofs.Settled.{stand_instead, turns_settle}
 use Rattle.world_free.proofs.Lists.{zip_split}
-use Rattle.world_free.proofs.Played.{front_legal}
+use Rattle.history.proofs.FrontLemmas.{front_legal}
 use Rattle.history.proofs.FrontLemmas.{follows_there as may_next}
 
 abbrev turns_of : List Row → List Turn

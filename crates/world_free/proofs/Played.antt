@@ -1,14 +1,12 @@
 -- Rows of a part that threads take: whichever of them have what the shared book has, the same stands after them.
 use Rattle.std.proofs.Common.{◌≡◌, ℕ, List, [], ◌∷◌, ◌++◌, map, fold, refl, sym, ap, ◌∙◌, subst, append_assoc}
 use Rattle.std.specs.List.{AllZip}
-use Rattle.std.proofs.lemmas.List.{append-nil, map-append}
+use Rattle.std.proofs.lemmas.List.{map-append}
 use Rattle.std.proofs.lemmas.List.Sums.{fold-append}
-use Rattle.due_set.specs.Table.{Table}
 use Rattle.launch_machine.specs.Clerk.{first_rows}
 use Rattle.history.specs.Book.{Row, Standing, after_row, first_standing, standing_after}
 use Rattle.history.specs.Legal.{IsLegal}
 use Rattle.history.specs.declared.turn.Turn.{Turn}
-use Rattle.history.proofs.Turns.{legal_push}
 use Rattle.script_semantics.specs.Free.{after_all_posted, after_posted}
 use Rattle.script_semantics.specs.Situation.{Situation}
 use Rattle.world_law.specs.Rows.{HasTurnOf}
@@ -18,7 +16,7 @@ use Rattle.world_law.proofs.Settled.{turns_settle}
 use Rattle.world_free.specs.Jobs.{IsOfPlan, situation_in}
 use Rattle.world_free.specs.Plan.{ArePlayed, FreePlan, SharedBook}
 use Rattle.world_free.proofs.Lists.{zip_split}
-use Rattle.history.proofs.FrontLemmas.{follows_there as may_next}
+use Rattle.history.proofs.FrontLemmas.{front_legal}
 
 abbrev turns_of : List Row → List Turn
 turns_of rows = map (λ (row : Row). row.turn) rows
@@ -28,16 +26,6 @@ abbrev pub stands_in : FreePlan → List Row → Standing
 stands_in plan rows = standing_after plan.book.members (first_rows plan.table) rows
 
 -- ---- fronts
-
-pub front_legal : (members : ℕ) (table : Table) (front back : List Row) → IsLegal members table (front ++ back) → IsLegal members table front
-front_legal members table front back legal = go [] front back legal (λ number row is. absurd cc)
-  where
-    go : (done front back : List Row) → IsLegal members table (done ++ (front ++ back)) → IsLegal members table done → IsLegal members table (done ++ front)
-    go done [] back legal so_far = rw (append-nil done) so_far
-    go done (row ∷ front) back legal so_far =
-        let may = may_next members table done (front ++ back) row legal in
-        subst (λ rows. IsLegal members table rows) (append_assoc done (row ∷ []) front)
-        (go (done ++ row ∷ []) front back (subst (λ rows. IsLegal members table rows) (sym (append_assoc done (row ∷ []) (front ++ back))) legal) (legal_push members table done row so_far may))
 
 -- a part that has more is one that has less, and more
 pub record Split (plan : FreePlan) (after more_rows : List BookRow) (begun more : List Row) : Type 0 where

@@ -6,14 +6,11 @@ use Rattle.std.proofs.lemmas.List.{length-append, length-map}
 use Rattle.disk_model.specs.View.{DiskView}
 use Rattle.zone_minutes.specs.Window.{IsInWindow}
 use Rattle.due_set.specs.Table.{Table}
-use Rattle.step_spec.specs.Step.{Event, IsLaunchTable}
-use Rattle.step_spec.specs.declared.out.OutLetter.{OutLetter}
+use Rattle.step_spec.specs.Step.{IsLaunchTable}
 use Rattle.replica_node.specs.Node.{replica_of}
-use Rattle.history.specs.Book.{PostedLetter, Row, Standing, after_row, post}
+use Rattle.history.specs.Book.{PostedLetter, Row}
 use Rattle.history.specs.Legal.{IsLegal}
 use Rattle.history.specs.declared.turn.Cause.TheVariants.{Campaign}
-use Rattle.history.specs.declared.turn.Turn.{Turn}
-use Rattle.history.specs.declared.turn.Turn.TheVariants.{Did, Stopped, Restarted, Arrived}
 use Rattle.script_semantics.specs.Commands.{Plain}
 use Rattle.script_semantics.specs.Parts.{Plays}
 use Rattle.script_semantics.specs.Round.{round_tasks}
@@ -40,17 +37,9 @@ use Rattle.world_rounds.specs.declared.member.Member.{Member}
 use Rattle.world_rounds.specs.declared.world.World.{World}
 use Rattle.due_set.proofs.Rising.{Contains-head as in_first, Contains-tail as in_rest, Contains-cases as cons_cases}
 use Rattle.launch_machine.proofs.MachineLemmas.{is_some_below as found_at}
+use Rattle.script_semantics.proofs.OtherLemmas.{posts as posted_one}
 
 -- ---- letters
-
--- what was posted stays, and more comes behind it
-posted_one : (n : ℕ) (standing : Standing) (turn : Turn) (event : Event) (letters : List OutLetter)
-    → (more : List PostedLetter) × ((after_row n standing turn event letters).posted ≡ standing.posted ++ more)
-unfolding after_row
-posted_one n standing (Did who cause made) event letters = (post who letters, refl)
-posted_one n standing (Stopped who cause kept) event letters = ([], sym (append_nil standing.posted))
-posted_one n standing (Restarted who) event letters = ([], sym (append_nil standing.posted))
-posted_one n standing (Arrived number) event letters = ([], sym (append_nil standing.posted))
 
 posted_more : (n : ℕ) (situation : Situation) (rows : List Row) → (more : List PostedLetter) × ((after_turns n situation rows).standing.posted ≡ situation.standing.posted ++ more)
 posted_more n situation [] = ([], sym (append_nil situation.standing.posted))

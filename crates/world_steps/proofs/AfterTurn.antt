@@ -34,7 +34,7 @@ use Rattle.world_steps.specs.Steps.{IsNodeAhead, IsNodeStopped, IsToldOf, TookSt
 use Rattle.world_steps.specs.Turns.{HasJoinedAt, HasLetters, IsNextStep, arm_then, fate_then, noted}
 use Rattle.world_steps.specs.declared.steps.Taken.{Taken}
 use Rattle.history.proofs.FrontLemmas.{replica_there}
-use Rattle.history.proofs.Standings.{fact_here, fact_there}
+use Rattle.history.proofs.Standings.{fact_here, fact_there, waits_others}
 use Rattle.world_law.proofs.Others.{others_run, others_stay}
 
 -- ---- the others
@@ -48,14 +48,6 @@ pub record Leaves (n : ℕ) (situation : Situation) (row : Row) (other : ℕ) : 
   pub fate : (after_turn n situation row).fates other ≡ situation.fates other
   pub arm : (after_turn n situation row).arms other ≡ situation.arms other
   pub base : (after_turn n situation row).bases other ≡ situation.bases other
-
-others_wait : (n : ℕ) (s : Standing) (turn : Turn) (event : Event) (letters : List OutLetter) (other : ℕ) → other ≢ turn_of turn
-    → (after_row n s turn event letters).waits other ≡ s.waits other
-unfolding after_row
-others_wait n s (Did who cause made) event letters other differs = fact_there who _ s.waits other differs
-others_wait n s (Stopped who cause kept) event letters other differs = fact_there who _ s.waits other differs
-others_wait n s (Restarted who) event letters other differs = refl
-others_wait n s (Arrived number) event letters other differs = refl
 
 others_mail : (turn : Turn) (mails : ℕ → List ℕ) (other : ℕ) → other ≢ turn_of turn → mails_after turn mails other ≡ mails other
 others_mail (Did who Campaign made) mails other differs = refl
@@ -77,7 +69,7 @@ pub leaves_other : (n : ℕ) (situation : Situation) (row : Row) (other : ℕ) �
 leaves_other n situation row other differs = record {
   replica = others_stay n situation.standing row.turn row.event row.letters other differs;
   runs = others_run n situation.standing row.turn row.event row.letters other differs;
-  waits = others_wait n situation.standing row.turn row.event row.letters other differs;
+  waits = waits_others n situation.standing row.turn row.event row.letters other differs;
   mail = others_mail row.turn situation.mails other differs;
   fate = others_fate row.turn situation.fates other differs;
   arm = others_armed row.turn (changes_in n situation.standing row.turn row.event) situation.arms other differs;
