@@ -1,0 +1,7 @@
+mod CountLemmas
+mod FormLemmas
+mod LineLemmas
+mod SpacedLemmas
+mod TurnLemmas
+mod UniqueLine
+mod UniqueTurn
