@@ -65,7 +65,7 @@ posted_more posted more all who number are sent =
 
 -- ---- the seat of a row
 
-named_by : (turn : Turn) (number : ℕ) → seat_of turn ≡ Some number → is_turn_of number turn ≡ true
+pub named_by : (turn : Turn) (number : ℕ) → seat_of turn ≡ Some number → is_turn_of number turn ≡ true
 named_by (Did who cause made) number is = let same : who ≡ number = cc in eq-eqb who number same
 named_by (Stopped who cause kept) number is = let same : who ≡ number = cc in eq-eqb who number same
 named_by (Restarted who) number is = let same : who ≡ number = cc in eq-eqb who number same
@@ -163,7 +163,7 @@ module _ (plan : FreePlan) (count : ℕ) (seats : List Seat) (new : BookState) (
     pub first : ArePlayed plan after rows one
     pub others : AreOthers who other
 
-  since_last : (book : SharedBook) (who : ℕ) (after : List BookRow) (seat : Seat) → IsSeatAt book who after seat → slice_get seats who ≡ Some seat
+  pub since_last : (book : SharedBook) (who : ℕ) (after : List BookRow) (seat : Seat) → IsSeatAt book who after seat → slice_get seats who ≡ Some seat
       → SinceLast who after
   since_last book who after seat seat_at there =
       let gone =

@@ -27,6 +27,7 @@ use Rattle.world_law.specs.declared.row.BookRow.{BookRow}
 use Rattle.world_steps.specs.Nodes.{IsDiskAt}
 use Rattle.world_steps.specs.Turns.{IsHalted, MayJoin, noted}
 use Rattle.world_steps.specs.declared.steps.Taken.{Taken}
+use Rattle.world_free.specs.Board.{TakesOneTurn}
 use Rattle.world_free.specs.Jobs.{IsBroken, IsNodeFit, IsOfPlan, IsRunner, IsStepper, IsStopper, situation_in}
 use Rattle.world_free.specs.Mails.{HasLooked}
 use Rattle.world_free.specs.Plan.{FreePlan, Seat, SharedBook}
@@ -122,6 +123,21 @@ seat_then plan book who after seat new turn row shows mine of_book number first 
   own = owns ∙ ap (λ rows. rows ++ row ∷ []) shows.own ∙ sym (is_own (λ (r : BookRow). seat_of r.turn) who (after ++ shows.gone) row mine);
 }
 
+-- so it has taken one
+pub takes_one : (plan : FreePlan) (book : SharedBook) (who : ℕ) (seat new : Seat) (turn : SeatTurn) (row : BookRow) → IsOfPlan plan book → IsTurnAt book seat turn
+    → ShowsHistory law.ghosts seat turn → ShowsRest law.ghosts turn
+    → seat_of row.turn ≡ Some who → IsSeatOf (book_at turn) new → number_of new ≡ number_at turn → first_rows_by new ≡ first_rows_at turn
+    → own_rows new ≡ own_at turn ++ row ∷ [] → seen_by new ≡ shown_at turn ++ row ∷ [] → TakesOneTurn book who seat new
+takes_one plan book who seat new turn row of at shows rests mine of_book number first owns saw after seat_at =
+    let here = shows_book plan book who after seat turn of seat_at at shows rests in
+    record {
+      gone = here.gone;
+      others = here.others;
+      row = row;
+      mine = mine;
+      at = seat_then plan book who after seat new turn row here mine (subst (λ (b : SharedBook). IsSeatOf b new) at.of_book of_book) (number ∙ here.number) first owns saw;
+    }
+
 module _ {D : Type 0} (view : DiskView D) (plan : FreePlan) (book : SharedBook) (who taken : ℕ) (step : Taken) (job : FreeJob D)
     (stepper : IsStepper view plan book who taken step job) (turn : SeatTurn) (at : IsTurnAt book job.seat turn) (shows : ShowsHistory law.ghosts job.seat turn)
     (rests : ShowsRest law.ghosts turn) where
@@ -215,6 +231,9 @@ module _ {D : Type 0} (view : DiskView D) (plan : FreePlan) (book : SharedBook) 
     seat = seat_then plan book who stopper.after job.seat new.seat turn (row_of_stop who cause change) halts refl (subst (λ (b : SharedBook). IsSeatOf b new.seat) at.of_book of_book)
         (number ∙ halts.number) first (owns ∙ ap (λ (r : BookRow). own_at turn ++ r ∷ []) row_is) (saw ∙ ap (λ (r : BookRow). shown_at turn ++ r ∷ []) row_is);
     halted = mail.runs;
+    started_with =
+        ap (λ (n : Node D). (replica_of n).state) node ∙ stopper.attached.started_with
+        ∙ ap (λ (n : Node D). started who (replica_of n).state.kept) (sym node);
     broken = halted.broken_then view plan book who taken cause change job stopper halts.gone halts.others (state_at turn) halts.here halts.rest halts.members;
     kept = λ begun more are.
         halted.kept_then view plan book who taken cause change job stopper halts.gone halts.others (state_at turn) halts.here halts.rest halts.members begun more are

@@ -16,6 +16,7 @@ use Rattle.world_steps.specs.Nodes.{IsNodeOf}
 use Rattle.world_steps.specs.Parts.{ArePartsAt, IsMailOf}
 use Rattle.world_steps.specs.declared.bundle.Bundle.{Bundle}
 use Rattle.world_steps.specs.declared.mail.MemberMail.{MemberMail}
+use Rattle.world_free.specs.Board.{HaveSeen}
 use Rattle.world_free.specs.Ends.{BeginsAt, HaveEnded, HaveLooked, latest_by}
 use Rattle.world_free.specs.Jobs.{HaveRun, IsJobAt}
 use Rattle.world_free.specs.Parts.{AreJobsOf, mail_in, node_in, seat_in}
@@ -23,7 +24,7 @@ use Rattle.world_free.specs.Plan.{FreePlan, Seat, SharedBook, plan_of}
 use Rattle.world_free.specs.declared.job.FreeJob.{FreeJob}
 use Rattle.world_free.specs.declared.job.FreeMail.{FreeMail}
 use Rattle.world_free.specs.declared.job.Setting.{Setting}
-use Rattle.world_free.proofs.Closed.{IsClosed, after_of, bases_there, job_mail, job_node, job_takes, more_of, named_there, runner_looked, stands_behind, stands_there}
+use Rattle.world_free.proofs.Closed.{IsClosed, after_of, bases_there, job_mail, job_node, job_takes, more_of, named_there, runner_looked, since_last, stands_behind, stands_there}
 use Rattle.world_free.proofs.EndLemmas.{drop_front, latest_of, none_earlier}
 use Rattle.world_free.proofs.Gone.{cuts_stay}
 use Rattle.world_free.proofs.JobLemmas.{mapped_at, mapped_from, some_at}
@@ -85,6 +86,12 @@ module _ {D : Type 0} (view : DiskView D) where
             (run who one.0 one.1);
         is = refl;
       }
+
+      -- what each seat has seen of the part, and what others have added since
+      pub seen_there : HaveSeen plan book rows more jobs
+      seen_there who job has there at =
+          let last = since_last plan (seats_of book) seats new.book closed rows begins.at book who has job.seat at (seat_there who job there) in
+          record { one = last.one; other = last.other; parts = last.parts; first = last.first; others = last.others }
 
       pub parts_there : (first : ℕ) → nodes ≡ new.nodes.items → HaveEnded plan.cuts new.book.letters mails new.mail.members.items
           → new.mail.cuts.items ≡ plan.cuts → first ≡ length plan.book.turns

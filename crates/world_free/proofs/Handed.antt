@@ -13,6 +13,7 @@ use Rattle.world_law.specs.Book.{BookState}
 use Rattle.world_law.specs.declared.letter.LetterRow.{LetterRow}
 use Rattle.world_steps.specs.Parts.{ArePartsAt, IsBookAt}
 use Rattle.world_steps.specs.declared.bundle.Bundle.{Bundle}
+use Rattle.world_free.specs.Board.{HaveSeen}
 use Rattle.world_free.specs.Ends.{BeginsAt}
 use Rattle.world_free.specs.Jobs.{AreJobsAt, HaveRun}
 use Rattle.world_free.specs.Parts.{AreJobsOf, AreKept, mail_of}
@@ -25,6 +26,14 @@ use Rattle.world_free.proofs.Begun.{jobs_begin, parts_begin}
 pub if_ok : {T E : Type 0} (result : Result T E) (P Q : T → Type 0) → ((value : T) → P value → Q value) → IfOk result P → IfOk result Q
 if_ok (Ok value) P Q goes is = goes value is
 if_ok (Err fault) P Q goes is = tt
+
+pub of_ok : {T E : Type 0} (result : Result T E) (value : T) (P : T → Type 0) → result ≡ Ok value → IfOk result P → P value
+of_ok (Ok found) value P is holds = let same : found ≡ value = cc in subst P same holds
+of_ok (Err fault) value P is holds = absurd cc
+
+pub both_ok : {T E : Type 0} (result : Result T E) (P Q : T → Type 0) → IfOk result P → IfOk result Q → IfOk result (λ value. P value × Q value)
+both_ok (Ok value) P Q one other = (one, other)
+both_ok (Err fault) P Q one other = tt
 
 -- what was lent as a slice comes back
 pub lent : {X : Type 0} (len : ℕ) (old now new : List X) → now ≡ old → length new ≡ length now → len ≡ length old
@@ -106,14 +115,14 @@ module _ {D M : Type 0} (view : DiskView D) (table : Table)
       }
 
     -- so many turns of a part, and the parts of the world behind it
-    abbrev pub GoesTo : Table → (members : ℕ) → List Row → Situation → Bundle (Node D) M → Type 0
-    GoesTo key members rows situation new =
+    abbrev pub GoesTo : Table → (members : ℕ) → List Row → Situation → Bundle (Node D) M → List (FreeJob D) → Type 0
+    GoesTo key members rows situation new ended =
         (more : List Row) × (after : Situation) × IsFreePart members key.window setting.at.0 setting.turns situation more after
-        × ArePartsAt view key (rows ++ more) new after
+        × ArePartsAt view key (rows ++ more) new after × HaveSeen (plan_of key book situation setting) book rows more ended
 
-    pub goes_to : (rows : List Row) (situation : Situation) (new : Bundle (Node D) M)
-        → GoesTo (opening_of book).key.value (opening_of book).state.value.members rows situation new
-        → GoesTo table parts.book.members rows situation new
-    goes_to rows situation new goes =
-        subst (λ key. GoesTo key parts.book.members rows situation new) handed.began.key_is
-        (subst (λ (opened : BookState). GoesTo (opening_of book).key.value opened.members rows situation new) handed.began.state_is goes)
+    pub goes_to : (rows : List Row) (situation : Situation) (new : Bundle (Node D) M) (ended : List (FreeJob D))
+        → GoesTo (opening_of book).key.value (opening_of book).state.value.members rows situation new ended
+        → GoesTo table parts.book.members rows situation new ended
+    goes_to rows situation new ended goes =
+        subst (λ key. GoesTo key parts.book.members rows situation new ended) handed.began.key_is
+        (subst (λ (opened : BookState). GoesTo (opening_of book).key.value opened.members rows situation new ended) handed.began.state_is goes)

@@ -1,5 +1,5 @@
 -- Jobs are made of nodes, mails and seats, one after another, and taken apart again.
-use Rattle.std.proofs.Common.{◌≡◌, ◌⊎◌, ℕ, zero, suc, ◌<◌, false, List, [], ◌∷◌, ◌++◌, length, map, Some, Result, Ok, Err, OnOk, refl, sym, ap, ◌∙◌, subst, inl, inr, ⊎_elim, arith, append_assoc, length-append}
+use Rattle.std.proofs.Common.{◌≡◌, ◌⊎◌, ℕ, zero, suc, ◌+◌, ◌<◌, false, List, [], ◌∷◌, ◌++◌, length, map, Some, Result, Ok, Err, OnOk, refl, sym, ap, ◌∙◌, subst, inl, inr, ⊎_elim, arith, append_assoc, length-append}
 use Rattle.std.specs.List.{remove, slice_get}
 use Rattle.std.specs.Prelude.{slice_index_or}
 use Rattle.std.proofs.lemmas.List.{append-nil, length-map, map-append}
@@ -168,22 +168,36 @@ pub on_ok : {T E : Type 0} (result : Result T E) (P Q : Type 0) → (P → Q) �
 on_ok (Ok value) P Q goes is = goes is
 on_ok (Err fault) P Q goes is = tt
 
-module _ {D : Type 0} (view : DiskView D) (table : Table) (book : SharedBook)
-    (setting : Setting) (old new : List (FreeJob D)) where
-  -- each has taken its turns, or was short of memory
-  abbrev pub HaveGone : Type 0
-  HaveGone =
-      (who : ℕ) (none : FreeJob D) → who < length old → (slice_index_or new who none).short ≡ false → (situation : Situation)
-      → IsJobAt view (plan_of table book situation setting) book who 0 (slice_index_or old who none)
-      → IsJobAt view (plan_of table book situation setting) book who setting.turns (slice_index_or new who none)
+module _ {D : Type 0} (view : DiskView D) (table : Table) (book : SharedBook) (setting : Setting) where
+  abbrev HasTurns : (who taken : ℕ) → Situation → FreeJob D → Type 0
+  HasTurns who taken situation job = IsJobAt view (plan_of table book situation setting) book who taken job
 
-  pub all_run : length new ≡ length old → HaveGone → ((who : ℕ) (job : FreeJob D) → slice_get new who ≡ Some job → job.short ≡ false) → (situation : Situation)
-      → AreJobsAt view (plan_of table book situation setting) book 0 old
-      → AreJobsAt view (plan_of table book situation setting) book setting.turns new
-  all_run count gone had situation begun who job there =
-      let inside = slice_get_within new who job there in
-      let within : who < length old = omega (arith, inside, count) in
-      let same = got_at new who job job there in
-      subst (λ (j : FreeJob D). IsJobAt view (plan_of table book situation setting) book who setting.turns j) same
-      (gone who job within (ap (λ (j : FreeJob D). j.short) same ∙ had who job there) situation
-      (begun who (slice_index_or old who job) (slice_get-get_or old who job within)))
+  -- all jobs but the first, whose numbers begin at 1
+  pub others_begun : (situation : Situation) (first : FreeJob D) (others : List (FreeJob D))
+      → AreJobsAt view (plan_of table book situation setting) book 0 (first ∷ others) → (who : ℕ) (none : FreeJob D) → who < length others
+      → IsJobAt view (plan_of table book situation setting) book (who + 1) 0 (slice_index_or others who none)
+  others_begun situation first others begun who none within =
+      let next : who + 1 ≡ suc who = omega arith in
+      let job : FreeJob D = slice_index_or others who none in
+      subst (λ n. HasTurns n 0 situation job) (sym next) (begun (suc who) job (slice_get-get_or others who none within))
+
+  -- each has taken its turns, where none was short of memory
+  pub all_run : (first first_after : FreeJob D) (others others_after : List (FreeJob D)) → length others_after ≡ length others
+      → (first_after.short ≡ false → (situation : Situation) → HasTurns 0 0 situation first → HasTurns 0 setting.turns situation first_after)
+      → ((who : ℕ) (none : FreeJob D) → who < length others → (slice_index_or others_after who none).short ≡ false → (situation : Situation)
+      → HasTurns (who + 1) 0 situation (slice_index_or others who none) → HasTurns (who + 1) setting.turns situation (slice_index_or others_after who none))
+      → ((who : ℕ) (job : FreeJob D) → slice_get (first_after ∷ others_after) who ≡ Some job → job.short ≡ false) → (situation : Situation)
+      → AreJobsAt view (plan_of table book situation setting) book 0 (first ∷ others)
+      → AreJobsAt view (plan_of table book situation setting) book setting.turns (first_after ∷ others_after)
+  all_run first first_after others others_after count runs others_run had situation begun zero job there =
+      let same : first_after ≡ job = cc in
+      subst (λ (j : FreeJob D). HasTurns 0 setting.turns situation j) same (runs (had zero first_after refl) situation (begun zero first refl))
+  all_run first first_after others others_after count runs others_run had situation begun (suc who) job there =
+      let inside = slice_get_within others_after who job there in
+      let within : who < length others = omega (arith, inside, count) in
+      let same = got_at others_after who job job there in
+      let next : who + 1 ≡ suc who = omega arith in
+      subst (λ (j : FreeJob D). HasTurns (suc who) setting.turns situation j) same
+      (subst (λ n. HasTurns n setting.turns situation (slice_index_or others_after who job)) next
+      (others_run who job within (ap (λ (j : FreeJob D). j.short) same ∙ had (suc who) job there) situation
+      (others_begun situation first others begun who job within)))

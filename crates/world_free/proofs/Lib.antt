@@ -17,6 +17,8 @@
 
 pub mod BaseLemmas
 pub mod Begun
+pub mod BoardEnds
+pub mod BoardLemmas
 pub mod Closed
 pub mod Commits
 pub mod EndLemmas
@@ -33,5 +35,6 @@ pub mod MailSteps
 pub mod Played
 pub mod Readying
 pub mod Runs
+pub mod Showing
 pub mod Since
 pub mod Stepping

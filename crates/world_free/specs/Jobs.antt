@@ -146,6 +146,7 @@ pub record IsBroken {D : Type 0} (view : DiskView D) (plan : FreePlan) (book : S
   pub after : List BookRow
   pub seat : IsSeatAt book who after job.seat
   pub halted : job.mail.mail.runs ≡ false
+  pub started_with : (replica_of job.node).state ≡ started who (replica_of job.node).state.kept
   pub broken : (begun more : List Row) → ArePlayed plan after begun more → HasStoppedFreely plan who more
   pub kept : (begun more : List Row) → ArePlayed plan after begun more
       → (situation_in plan more).standing.replicas who ≡ started who (replica_of job.node).state.kept

@@ -1,3 +1,4 @@
+pub mod Board
 pub mod Ends
 pub mod Jobs
 pub mod Mails

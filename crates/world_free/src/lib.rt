@@ -5,10 +5,12 @@
 //! said of the order that the threads take, and nothing depends on it. Before each turn a thread passes a
 //! `TurnGate`, so that a test can hold it until another has taken a turn; `OpenGate` holds nobody. A disk may be
 //! armed, and is so for the length of each step alone; a thread whose disk stops adds the turn of the stop and ends.
-//! If memory runs out nothing comes back, and so it is of a book of 2^31 turns. That threads run at once, and that
-//! the call returns, isn't claimed. `next` has what a replica does next, `mails` the look at the book, `ready` what
-//! is done in a turn before it is added, `turns` the turns of a thread, `jobs` what threads are handed, `ends` what
-//! is left at the end.
+//! `run_free_shown` shows the part on a board too: the first replica's thread publishes the launch table after each of
+//! its turns behind which the replica has learned more than the board shows, so each state there is one of the log
+//! (`ShowsPart`). If memory runs out nothing comes back, and so it is of a book of 2^31 turns. That threads run at
+//! once, and that the call returns, isn't claimed. `next` has what a replica does next, `mails` the look at the book,
+//! `ready` what is done in a turn before it is added, `turns` the turns of a thread, `show` what it shows, `jobs` what
+//! threads are handed, `ends` what is left at the end.
 #![tactic(auto)]
 
 mod ends;
@@ -19,7 +21,8 @@ mod jobs;
 mod mails;
 mod next;
 mod ready;
+mod show;
 mod turns;
 
-pub use free::run_free;
+pub use free::{run_free, run_free_shown};
 pub use gate::{OpenGate, TurnGate};

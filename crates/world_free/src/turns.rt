@@ -1,6 +1,8 @@
 //! The turns of one thread.
-ghost use Rattle.std.specs.Prelude.{◌≡◌, ◌+◌, ◌<◌, ◌≤◌, ℕ, false, IfOk, OnOk};
+ghost use Rattle.std.specs.Prelude.{◌≡◌, ◌+◌, ◌<◌, ◌≤◌, ℕ, false, IfOk, OnOk, Option, is_some};
 ghost use Rattle.script_semantics.specs.Situation.{Situation as Here};
+ghost use Rattle.status_board.specs.Writing.{Writing};
+ghost use Rattle.world_free.specs.Board.{HasShown, MayShowOn, OnBoard, TakesOneTurn};
 ghost use Rattle.world_free.specs.Jobs.{HasTried, IsBroken, IsJobAt, IsRunner, IsStepper, IsStopper};
 ghost use Rattle.world_free.specs.Mails.{IsToldHere};
 ghost use Rattle.world_free.specs.Plan.{SharedBook, plan_of};
@@ -10,12 +12,14 @@ use crate::gate::TurnGate;
 use crate::job::{FreeJob, FreeMail, Setting};
 use crate::next::next_cause;
 use crate::ready::{MOST_TURNS, make_ready};
+use crate::show::show_on;
 use cron_io::OutOfMemory;
 use disk_model::ArmedDisk;
 use due_set::JobTable;
 use history::{Cause, Turn};
 use paxos_base::Delta;
 use replica_core::Input;
+use status_board::BoardWriter;
 use std::sync::Wait;
 use turn_book::TurnBook;
 use world_law::{Book, BookRow};
@@ -58,6 +62,7 @@ impl<D: ArmedDisk> FreeJob<D> {
         ensures steps { IfOk result (λ tried. (book : SharedBook) (situation : Here)
             → IsRunner D.view (plan_of table.now book situation setting.now) book who turn self.old
             → HasTried D.view (plan_of table.now book situation setting.now) book who turn tried.0 tried.1 self.new) }
+        ensures seat { self.new.seat ≡ self.old.seat }
     {
         let cause = next_cause(
             &self.mail.mail,
@@ -98,6 +103,7 @@ impl<D: ArmedDisk> FreeJob<D> {
         ensures goes { OnOk result ((situation : Here) (turn : ℕ)
             → IsStepper D.view (plan_of table.now book.now situation setting.now) book.now who turn taken self.old
             → IsRunner D.view (plan_of table.now book.now situation setting.now) book.now who (turn + 1) self.new) }
+        ensures one { OnOk result (TakesOneTurn book.now who self.old.seat self.new.seat) }
     {
         let mut turn = book.enter(rt, &mut self.seat);
         match make_ready(
@@ -140,6 +146,7 @@ impl<D: ArmedDisk> FreeJob<D> {
         ensures stops { OnOk result ((situation : Here) (turn : ℕ)
             → IsStopper D.view (plan_of table.now book.now situation setting.now) book.now who turn cause change self.old
             → IsBroken D.view (plan_of table.now book.now situation setting.now) book.now who self.new) }
+        ensures one { OnOk result (TakesOneTurn book.now who self.old.seat self.new.seat) }
     {
         let kept = change.is_some();
         let out = change_alone(setting.alloc, change);
@@ -179,6 +186,7 @@ impl<D: ArmedDisk> FreeJob<D> {
         ensures goes { OnOk result ((situation : Here)
             → IsRunner D.view (plan_of table.now book.now situation setting.now) book.now who turn self.old
             → IsJobAt D.view (plan_of table.now book.now situation setting.now) book.now who (turn + 1) self.new) }
+        ensures one { OnOk result (TakesOneTurn book.now who self.old.seat self.new.seat) }
     {
         let (cause, ended) = self.step(table, setting, who, turn)?;
         match ended {
@@ -187,6 +195,36 @@ impl<D: ArmedDisk> FreeJob<D> {
                 self.commit_stop(rt, book, table, setting, who, cause, change)
             }
         }
+    }
+
+    // And then shows what the replica has learned by it, where there is a board.
+    fn take_and_show<R: Wait>(
+        &mut self,
+        rt: &R,
+        book: &TurnBook<Book>,
+        table: &JobTable,
+        setting: &Setting,
+        who: u8,
+        turn: u32,
+        board: &mut Option<BoardWriter>,
+    ) -> Result<(), OutOfMemory>
+        requires inside { IsInWindow table.now.window setting.now.at.0 }
+        requires may { (situation : Here)
+            × IsRunner D.view (plan_of table.now book.now situation setting.now) book.now who turn self.old }
+        requires left { turn < setting.now.turns }
+        requires may_show { MayShowOn table.now board.old }
+        ensures goes { OnOk result ((situation : Here)
+            → IsRunner D.view (plan_of table.now book.now situation setting.now) book.now who turn self.old
+            → IsJobAt D.view (plan_of table.now book.now situation setting.now) book.now who (turn + 1) self.new) }
+        ensures may_show { OnOk result (MayShowOn table.now board.new) }
+        ensures shows { OnOk result ((situation : Here) (first : Option Writing)
+            → IsRunner D.view (plan_of table.now book.now situation setting.now) book.now who turn self.old
+            → OnBoard (HasShown (plan_of table.now book.now situation setting.now) book.now who self.old.seat) first board.old
+            → OnBoard (HasShown (plan_of table.now book.now situation setting.now) book.now who self.new.seat) first board.new) }
+        ensures stays { is_some board.new ≡ is_some board.old }
+    {
+        self.take_turn(rt, book, table, setting, who, turn)?;
+        show_on(rt, setting.alloc, table, self.node.replica(), board)
     }
 
     // Takes its turns one after another, as long as it runs and there is memory.
@@ -198,22 +236,30 @@ impl<D: ArmedDisk> FreeJob<D> {
         table: &JobTable,
         setting: &Setting,
         who: usize,
+        board: &mut Option<BoardWriter>,
     )
         requires small { who < 7 }
         requires inside { IsInWindow table.now.window setting.now.at.0 }
         requires may { (situation : Here)
             × IsJobAt D.view (plan_of table.now book.now situation setting.now) book.now who 0 self.old }
         requires has_memory { self.old.short ≡ false }
+        requires may_show { MayShowOn table.now board.old }
         ensures runs { self.new.short ≡ false → (situation : Here)
             → IsJobAt D.view (plan_of table.now book.now situation setting.now) book.now who 0 self.old
             → IsJobAt D.view (plan_of table.now book.now situation setting.now) book.now who setting.now.turns self.new }
+        ensures may_show { self.new.short ≡ false → MayShowOn table.now board.new }
+        ensures shows { self.new.short ≡ false → (situation : Here) (first : Option Writing)
+            → IsJobAt D.view (plan_of table.now book.now situation setting.now) book.now who 0 self.old
+            → OnBoard (HasShown (plan_of table.now book.now situation setting.now) book.now who self.old.seat) first board.old
+            → OnBoard (HasShown (plan_of table.now book.now situation setting.now) book.now who self.new.seat) first board.new }
+        ensures stays { is_some board.new ≡ is_some board.old }
     {
         'turns: for turn in 0..setting.turns {
             if !self.mail.mail.runs {
                 return;
             }
             gate.pass(who as u8, turn);
-            match self.take_turn(rt, book, table, setting, who as u8, turn) {
+            match self.take_and_show(rt, book, table, setting, who as u8, turn, board) {
                 Ok(()) => {}
                 Err(_) => {
                     self.short = true;
@@ -221,5 +267,29 @@ impl<D: ArmedDisk> FreeJob<D> {
                 }
             }
         }
+    }
+
+    // So does one behind the first, for which there is no board.
+    pub(crate) fn run_behind<R: Wait, G: TurnGate>(
+        &mut self,
+        rt: &R,
+        book: &TurnBook<Book>,
+        gate: &G,
+        table: &JobTable,
+        setting: &Setting,
+        place: usize,
+    )
+        requires small { place < 6 }
+        requires inside { IsInWindow table.now.window setting.now.at.0 }
+        requires may { (situation : Here)
+            × IsJobAt D.view (plan_of table.now book.now situation setting.now) book.now (place + 1) 0 self.old }
+        requires has_memory { self.old.short ≡ false }
+        ensures runs { self.new.short ≡ false → (situation : Here)
+            → IsJobAt D.view (plan_of table.now book.now situation setting.now) book.now (place + 1) 0 self.old
+            → IsJobAt D.view (plan_of table.now book.now situation setting.now) book.now (place + 1) setting.now.turns self.new }
+    {
+        let mut none = None;
+        self.run(rt, book, gate, table, setting, place + 1, &mut none);
+        let None = none else { unreachable!() };
     }
 }

@@ -3,7 +3,7 @@ use Rattle.replica_node.specs.declared.node.Node.{Node}
 use Rattle.world_steps.specs.declared.bundle.Bundle.{Bundle}
 use Rattle.world_free.specs.Ends.{HaveEnded, HaveLooked, latest_by}
 use Rattle.world_free.proofs.Closed.{is_closed}
-use Rattle.world_free.proofs.Ending.{all_looked, all_seats, free_part, parts_there}
+use Rattle.world_free.proofs.Ending.{all_looked, all_seats, free_part, parts_there, seen_there}
 use Rattle.world_free.proofs.free.finish.Goals as goal
 
 pub close-book-requires : goal.close-book-requires
@@ -40,4 +40,6 @@ returns-clause-ends g c = λ rows situation run begins.
       parts_there g.D.Disk.view c.args.book c.args.setting situation c.args.jobs.items run c.requires.count
           c.in_ok-nodes.nodes.items c.in_ok-nodes.mails.items c.in_ok-nodes.seats.items c.in_ok-nodes.ensures.jobs new closed rows c.args.latest.0 begins c.requires.members c.args.first
           refl ended refl c.requires.first latest,
+      seen_there g.D.Disk.view c.args.book c.args.setting situation c.args.jobs.items run c.requires.count
+          c.in_ok-nodes.nodes.items c.in_ok-nodes.mails.items c.in_ok-nodes.seats.items c.in_ok-nodes.ensures.jobs new closed rows c.args.latest.0 begins c.requires.members,
     )

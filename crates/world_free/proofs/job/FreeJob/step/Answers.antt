@@ -28,4 +28,5 @@ returns g c = record {
       (was_told g.D.Disk.view plan book c.args.who c.args.turn c.args.self.now runner c.next_cause-cause.result c.input_for-input.result is c.input_for-input.ensures.told) in
       tried g.D.Disk.view plan book c.args.who c.args.turn c.args.self.now runner c.next_cause-cause.result c.in_ok-ended.ended _ is
       c.requires.left came.0 came.1 refl refl;
+  seat = refl;
 }

@@ -1,7 +1,8 @@
-use Rattle.std.proofs.Common.{subst}
+use Rattle.std.proofs.Common.{OnOk, subst}
 use Rattle.world_steps.specs.declared.armed.Outcome.{Outcome}
+use Rattle.world_free.specs.Board.{TakesOneTurn}
 use Rattle.world_free.specs.Jobs.{HasTried}
-use Rattle.world_free.specs.Plan.{plan_of}
+use Rattle.world_free.specs.Plan.{Seat, plan_of}
 use Rattle.world_free.proofs.JobLemmas.{on_ok}
 use Rattle.world_free.proofs.Runs.{has_run, has_stopped}
 use Rattle.world_free.proofs.job.FreeJob.take_turn.Goals as goal
@@ -41,6 +42,7 @@ returns-in-Taken g c = record {
       (subst (λ (o : Outcome). HasTried g.D.Disk.view plan c.args.book.now c.args.who c.args.turn c.in_ok-cause.cause o c.step.new.self) c.in-Taken.is
       (c.in_ok-cause.ensures.steps c.args.book.now situation runner))))
       c.commit.ensures.goes;
+  one = subst (λ (seat : Seat). OnOk c.commit.result (TakesOneTurn c.args.book.now c.args.who seat c.commit.new.self.seat)) c.step.ensures.seat c.commit.ensures.one;
 }
 
 pub returns-in-Stopped : goal.returns-in-Stopped
@@ -54,4 +56,7 @@ returns-in-Stopped g c = record {
       (subst (λ (o : Outcome). HasTried g.D.Disk.view plan c.args.book.now c.args.who c.args.turn c.in_ok-cause.cause o c.step.new.self) c.in-Stopped.is
       (c.in_ok-cause.ensures.steps c.args.book.now situation runner))))
       c.commit_stop.ensures.stops;
+  one =
+      subst (λ (seat : Seat). OnOk c.commit_stop.result (TakesOneTurn c.args.book.now c.args.who seat c.commit_stop.new.self.seat)) c.step.ensures.seat
+      c.commit_stop.ensures.one;
 }

@@ -1,10 +1,10 @@
-use Rattle.std.proofs.Common.{◌≡◌, false, sym, ap, ◌∙◌, subst, arith}
+use Rattle.std.proofs.Common.{◌≡◌, ◌+◌, false, sym, ap, ◌∙◌, subst, arith}
 use Rattle.std.proofs.lemmas.Grind.{common_steps}
 use Rattle.script_semantics.specs.Situation.{Situation}
 use Rattle.world_free.specs.Jobs.{IsJobAt}
 use Rattle.world_free.specs.Plan.{plan_of}
 use Rattle.world_free.specs.declared.job.FreeJob.{FreeJob}
-use Rattle.world_free.proofs.free.run_all.Goals as goal
+use Rattle.world_free.proofs.free.run_others.Goals as goal
 
 pub for_each_mut-requires-clause-accepts : goal.for_each_mut-requires-clause-accepts
 for_each_mut-requires-clause-accepts g c κs within who job below is lives caller here name calls ranges n lives' among =
@@ -16,7 +16,7 @@ for_each_mut-requires-clause-accepts g c κs within who job below is lives calle
         (
           (
             begun.0,
-            subst (λ (j : FreeJob g.row.D.Denot). IsJobAt g.D.Disk.view plan c.args.book.now who 0 j)
+            subst (λ (j : FreeJob g.row.D.Denot). IsJobAt g.D.Disk.view plan c.args.book.now (who + 1) 0 j)
                 (sym is) begun.1,
           ),
           ap (λ (j : FreeJob g.row.D.Denot). j.short) is ∙ c.requires.memory who job.now below,
@@ -30,14 +30,14 @@ returns-clause-runs g c = λ who none within had situation begun.
     let plan = plan_of c.args.table.now c.args.book.now situation c.args.setting.now in
     let runs : at.after_call.now.short ≡ false → (other : Situation)
     → IsJobAt g.D.Disk.view
-    (plan_of c.args.table.now c.args.book.now other c.args.setting.now) c.args.book.now who 0 at.argument.now
+    (plan_of c.args.table.now c.args.book.now other c.args.setting.now) c.args.book.now (who + 1) 0 at.argument.now
     → IsJobAt g.D.Disk.view
-    (plan_of c.args.table.now c.args.book.now other c.args.setting.now) c.args.book.now who c.args.setting.now.turns at.after_call.now =
+    (plan_of c.args.table.now c.args.book.now other c.args.setting.now) c.args.book.now (who + 1) c.args.setting.now.turns at.after_call.now =
     grind (arith, common_steps, at.call) in
     let short : at.after_call.now.short ≡ false = ap (λ (j : FreeJob g.row.D.Denot). j.short) at.left ∙ had in
-    let old : IsJobAt g.D.Disk.view plan c.args.book.now who 0 at.argument.now =
-    subst (λ (j : FreeJob g.row.D.Denot). IsJobAt g.D.Disk.view plan c.args.book.now who 0 j)
+    let old : IsJobAt g.D.Disk.view plan c.args.book.now (who + 1) 0 at.argument.now =
+    subst (λ (j : FreeJob g.row.D.Denot). IsJobAt g.D.Disk.view plan c.args.book.now (who + 1) 0 j)
     (sym at.argument_is) begun in
     let turns = c.args.setting.now.turns in
-    subst (λ (j : FreeJob g.row.D.Denot). IsJobAt g.D.Disk.view plan c.args.book.now who turns j) at.left
+    subst (λ (j : FreeJob g.row.D.Denot). IsJobAt g.D.Disk.view plan c.args.book.now (who + 1) turns j) at.left
     (runs short situation old)
