@@ -4,7 +4,7 @@ use Rattle.crontab_text.specs.Answers.{BeginsWithByte}
 use Rattle.crontab_text.specs.Assignment.{IsNameStart, IsAssignment}
 use Rattle.crontab_text.specs.Blanks.{SkipsBlanks}
 use Rattle.crontab_text.proofs.BlankLemmas.{same_skip}
-use Rattle.crontab_text.proofs.ListLemmas.{eq_dec}
+use Rattle.std.proofs.lemmas.Bool.{cases_eq}
 use Rattle.crontab_text.proofs.TotalLemmas.{some_skip}
 use Rattle.crontab_text.proofs.UniqueLemmas.{SameFault}
 use Rattle.anacron_text.specs.Answers.{IsAnacronOther, IsBadSetting, AnacronSays, AnacronBreaks, IsBehindBlanks, IsAnacronLineOf, IsAnacronLineBreak, AnacronLineAnswer, Said, Broken, IsAnacronAnswer, SetsByAnswer, AreAnswersBelow, AreAnacronAnswers}
@@ -196,7 +196,7 @@ line_break_within line cause left is =
 -- what a text says or breaks
 says_some : (settings : Settings) (text : List ℕ) → ((body : AnacronLineBody) × AnacronSays settings text body) ⊎ ((cause : ℕ) × (left : ℕ) × AnacronBreaks text cause left)
 says_some settings [] = inl (BlankBody, refl)
-says_some settings (c ∷ cs) = elim (eq_dec c 35) [
+says_some settings (c ∷ cs) = elim (cases_eq c 35) [
   | inl is ↦ inl (CommentBody, is)
   | inr no_comment ↦ elim (setting_or_not (c ∷ cs)) [
     | inl (name, value, left, setting) ↦ elim (sets_or_bad settings name value) [

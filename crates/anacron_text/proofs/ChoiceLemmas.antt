@@ -1,16 +1,16 @@
 -- Words that are numbers, periods, delays, hours or identifiers, or not.
-use Rattle.std.proofs.Common.{◌≡◌, ◌≢◌, ◌⊎◌, ℕ, ◌<◌, ◌≤◌, zero, suc, List, [], ◌∷◌, ◌++◌, length, get_or, codes, decimal, refl, ap, ◌∙◌, sym, subst, inl, inr, arith}
+use Rattle.std.proofs.Common.{◌≡◌, ◌≢◌, ◌⊎◌, ℕ, ◌<◌, ◌≤◌, zero, suc, List, ◌∷◌, ◌++◌, length, get_or, codes, decimal, refl, ap, ◌∙◌, sym, subst, inl, inr, arith}
 use Rattle.std.proofs.lemmas.Fmt.{digits_decimal, decimal_injective, decimal_nonempty}
 use Rattle.std.proofs.lemmas.Str.Parse.{not_in_digits}
-use Rattle.crontab_text.proofs.Choice.{Decided, decided_or, decided_and, decided_all, decided_not, le_or_not}
-use Rattle.crontab_text.proofs.ListLemmas.{eq_dec}
+use Rattle.crontab_text.proofs.Choice.{decided_or, decided_and, decided_all, decided_not}
+use Rattle.std.proofs.lemmas.Bool.{cases_eq}
 use Rattle.anacron_text.specs.Job.{IsPeriod, IsIdentifier}
 use Rattle.anacron_text.specs.Settings.{IsNumberWithin, IsHours, SetsVariable, IsBadValue, random_delay, start_hours_range}
 use Rattle.anacron_text.specs.declared.answer.PeriodWord.{PeriodWord}
 use Rattle.anacron_text.specs.declared.answer.PeriodWord.TheVariants.{Days, Monthly, Yearly}
 use Rattle.anacron_text.specs.declared.settings.Settings.{Settings}
 use Rattle.cron_io.proofs.NumberLemmas.{own}
-use Rattle.cron_fields.proofs.Choice.{text_or_not}
+use Rattle.cron_fields.proofs.Choice.{text_or_not, Decided, le_or_not}
 
 -- some number up to another has a property, or none has
 bounded_or_not : (P : ℕ → Type 0) → ((n : ℕ) → Decided (P n)) → (most : ℕ) → ((n : ℕ) × (n ≤ most) × P n) ⊎ ((n : ℕ) → n ≤ most → P n → ⊥)
@@ -22,7 +22,7 @@ bounded_or_not P each (suc most) = elim (each (suc most)) [
   | inl p ↦ inl (suc most, omega arith, p)
   | inr none ↦ elim (bounded_or_not P each most) [
     | inl (n, small, p) ↦ inl (n, omega arith, p)
-    | inr below ↦ inr (λ n small p. elim (eq_dec n (suc most)) [
+    | inr below ↦ inr (λ n small p. elim (cases_eq n (suc most)) [
       | inl is ↦ none (subst P is p)
       | inr other ↦ below n (omega arith) p
     ])
@@ -156,7 +156,7 @@ identifier_or_not word = elim (le_or_not 1 (length word)) [
   | inr none ↦ inr (λ is. let some = is.some in none (omega arith))
   | inl some ↦ elim (le_or_not (length word) 64) [
     | inr long ↦ inr (λ is. long is.short)
-    | inl short ↦ elim (decided_all (λ c. c ≢ 47) (λ c. decided_not (eq_dec c 47)) word) [
+    | inl short ↦ elim (decided_all (λ c. c ≢ 47) (λ c. decided_not (cases_eq c 47)) word) [
       | inr slash ↦ inr (λ is. slash is.no_slash)
       | inl no_slash ↦ inl (record { some = omega arith; short = short; no_slash = no_slash })
     ]

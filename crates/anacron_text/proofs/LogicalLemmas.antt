@@ -2,14 +2,14 @@
 use Rattle.std.proofs.Common.{◌≡◌, ◌≢◌, ◌⊎◌, ℕ, ◌+◌, ◌-◌, ◌*◌, ◌<◌, ◌≤◌, ◌==◌, zero, suc, true, false, cond, List, [], ◌∷◌, ◌++◌, length, get_or, take, drop, count_by, refl, ap, ◌∙◌, sym, subst, inl, inr, arith, length-append, append_assoc, add-one, drop-cons, Option, Some, None, Bor}
 use Rattle.std.specs.Option.{MatchOption, unwrap_or}
 use Rattle.std.specs.List.{AllByRecursion}
-use Rattle.std.proofs.lemmas.Bool.{ne_eqb}
+use Rattle.std.proofs.lemmas.Bool.{ne_eqb, cases_lt, cases_eq}
 use Rattle.std.proofs.lemmas.Bool.Decides.{nat_tests}
 use Rattle.std.proofs.lemmas.List.{append-nil, take-append-drop, take_all, length-take-le, drop_at, take_at, drop-drop, get_or-drop}
 use Rattle.std.proofs.lemmas.List.Sums.{sum_by-append}
 use Rattle.crontab_text.specs.Blanks.{MayBeginWith, MayEndWith}
 use Rattle.crontab_text.specs.Lines.{Lacks, BeginsWithLine, lines_of}
 use Rattle.crontab_text.proofs.LineLemmas.{lines_of-none, lines_of-begins, some_line, line_size}
-use Rattle.crontab_text.proofs.ListLemmas.{eq_dec, MayEndWith-append}
+use Rattle.crontab_text.proofs.ListLemmas.{MayEndWith-append}
 use Rattle.anacron_text.specs.LogicalLines.{is_continued, before_lines, joined, logical_lines, BeginsWithLogicalLine, IsLogicalEnd, IsLineEnd, IsContinuedAt}
 
 -- the newlines of a text
@@ -36,7 +36,7 @@ continued_at_last (c ∷ d ∷ ds) some last =
 
 continued_or_not : (line : List ℕ) → (is_continued line ≡ false) ⊎ ((0 < length line) × (get_or line (length line - 1) 0 ≡ 92))
 continued_or_not [] = inl refl
-continued_or_not (c ∷ []) = elim (eq_dec c 92) [
+continued_or_not (c ∷ []) = elim (cases_eq c 92) [
   | inl is ↦ inr (omega arith, is)
   | inr other ↦ inl (ne_eqb c 92 other)
 ]
@@ -354,9 +354,6 @@ reaches_end text end reaches none =
           count = rw cut.0 (count_before (length text) end (newlines (reaches.front ++ reaches.line)) (omega arith) (omega arith));
         }
 
-lt_or_not : (m n : ℕ) → (m < n) ⊎ (n ≤ m)
-lt_or_not m n = grind arith
-
 drop_here : (n : ℕ) (xs : List ℕ) → n < length xs → drop n xs ≡ get_or xs n 0 ∷ drop (n + 1) xs
 drop_here n xs inside = rw add-one (drop-cons xs n 0 inside)
 
@@ -368,7 +365,7 @@ begins_logical text end some is = record { lines = is.lines; split = split }
     size = length-take-le end text (is.within)
 
     split : (text ≡ take end text ++ 10 ∷ drop (end + 1) text) ⊎ ((text ≡ take end text) × (0 < length (take end text)) × (drop (end + 1) text ≡ []))
-    split = elim (lt_or_not end (length text)) [
+    split = elim (cases_lt end (length text)) [
       | inl inside ↦ inl (sym (take-append-drop end text) ∙ ap (λ t. take end text ++ t) (drop_here end text inside ∙ ap (λ c. c ∷ drop (end + 1) text) (is.newline inside)))
       | inr past ↦
           let within = is.within in
@@ -378,7 +375,7 @@ begins_logical text end some is = record { lines = is.lines; split = split }
 -- what is behind a logical line, without the newline that ends it
 pub after_logical : (text : List ℕ) (end : ℕ) (stripped : Option (Bor (List ℕ))) (nothing : Bor (List ℕ)) → IsLogicalEnd text end → nothing.now ≡ []
     → MatchOption stripped ((rest : List ℕ) → drop end text ≢ 10 ∷ rest) (λ rest. drop end text ≡ 10 ∷ rest.now) → (unwrap_or stripped nothing).now ≡ drop (end + 1) text
-after_logical text end None nothing is empty cases = elim (lt_or_not end (length text)) [
+after_logical text end None nothing is empty cases = elim (cases_lt end (length text)) [
   | inl inside ↦ absurd (cases (drop (end + 1) text) (drop_here end text inside ∙ ap (λ c. c ∷ drop (end + 1) text) (is.newline inside)))
   | inr past ↦ empty ∙ sym (drop_past (end + 1) text (omega arith))
 ]

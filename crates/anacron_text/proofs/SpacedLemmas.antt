@@ -1,12 +1,12 @@
 -- A line with a space for each byte that joins two lines.
 use Rattle.std.proofs.Common.{◌≡◌, ◌≢◌, ◌⊎◌, ℕ, ◌+◌, ◌-◌, ◌<◌, ◌≤◌, ◌==◌, ◌&&◌, ◌||◌, zero, suc, Bool, true, false, cond, List, [], ◌∷◌, ◌++◌, length, get_or, take, drop, refl, ap, ◌∙◌, sym, subst, inl, inr, arith, length-append, append_assoc}
 use Rattle.std.specs.Str.{IsUtf8, IsCharBoundary}
-use Rattle.std.proofs.lemmas.Bool.{ne_eqb}
+use Rattle.std.proofs.lemmas.Bool.{ne_eqb, cases_eq}
 use Rattle.std.proofs.lemmas.List.{append-nil, take-append-drop, length-take-le, drop_at}
 use Rattle.std.proofs.lemmas.Str.{IsCharBoundary-before_ascii}
 use Rattle.crontab_text.specs.Blanks.{IsBlank, IsMark, LacksAny, IsFirstIndex, IsCutAt, SkipsBlanks, DropsBlanks, AreBlanksFrom}
 use Rattle.crontab_text.proofs.BlankLemmas.{boundary_after_low, skips_to_mark, skips_all, drops_from, is_blank_before}
-use Rattle.crontab_text.proofs.ListLemmas.{LacksAny-from_get_or, cut_at_index, cut_at_end, eq_dec}
+use Rattle.crontab_text.proofs.ListLemmas.{LacksAny-from_get_or, cut_at_index, cut_at_end}
 use Rattle.anacron_text.specs.Spaced.{is_at_line_end, spaced, IsPartWithin}
 
 -- a byte as it is read, where a line of the text ends behind it or not
@@ -30,9 +30,9 @@ shown_other c ends no_newline no_backslash =
 
 -- each byte stays or is a space
 pub shown_or_space : (c : ℕ) (ends : Bool) → (shown c ends ≡ c) ⊎ ((shown c ends ≡ 32) × ((c ≡ 10) ⊎ (c ≡ 92)))
-shown_or_space c ends = elim (eq_dec c 10) [
+shown_or_space c ends = elim (cases_eq c 10) [
   | inl newline ↦ inr (shown_newline c ends newline, inl newline)
-  | inr no_newline ↦ elim (eq_dec c 92) [
+  | inr no_newline ↦ elim (cases_eq c 92) [
     | inr no_backslash ↦ inl (shown_other c ends no_newline no_backslash)
     | inl backslash ↦ by_end ends backslash
   ]

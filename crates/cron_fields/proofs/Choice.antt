@@ -1,5 +1,5 @@
 -- Facts that hold or don't, and what a text is by them.
-use Rattle.std.proofs.Common.{◌≡◌, ◌≢◌, ◌⊎◌, ℕ, zero, suc, List, [], ◌∷◌, ◌++◌, inl, inr, ⊎_elim, refl, sym, ap, ◌∙◌, arith}
+use Rattle.std.proofs.Common.{◌≡◌, ◌≢◌, ◌⊎◌, ℕ, zero, suc, ◌≤◌, List, [], ◌∷◌, ◌++◌, inl, inr, ⊎_elim, refl, sym, ap, ◌∙◌, arith}
 use Rattle.std.proofs.lemmas.Bool.{cases_eq}
 use Rattle.cron_fields.specs.Atom.{HasNo, IsSplitAt}
 
@@ -29,6 +29,9 @@ text_or_not (x ∷ a) (y ∷ b) = ⊎_elim
     (λ heads. ⊎_elim (λ tails. inl (cc)) (λ fails. inr (λ is. fails (cc))) (text_or_not a b))
     (λ fails. inr (λ is. fails (cc)))
     (cases_eq x y)
+
+pub le_or_not : (m n : ℕ) → Decided (m ≤ n)
+le_or_not m n = grind arith
 
 pub HasNo-nil : (byte : ℕ) → HasNo byte []
 HasNo-nil byte i within = absurd (omega arith)

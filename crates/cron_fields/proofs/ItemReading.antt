@@ -8,14 +8,11 @@ use Rattle.cron_fields.specs.Item.{last_of, IsStepped, IsSingle, IsRange, IsWide
 use Rattle.cron_fields.specs.ItemFault.{bad_atom, bad_number, IsRangeFault, bad_low_atom, bad_high_atom, bad_low_number, bad_high_number, bad_order, IsBaseFault, bad_single, bad_range, IsStepFault, empty_step, no_number, zero_step, IsItemFault, bad_item, bad_base, step_after_atom, bad_step}
 use Rattle.cron_fields.specs.declared.field.FieldKind.{FieldKind}
 use Rattle.cron_fields.proofs.AtomReading.{ReadsAtom, atom_exists, atom_same, empty_text, name_letters, number_or_not, takes_or_not}
-use Rattle.cron_fields.proofs.Choice.{Decided, choose, choose-yes, choose-no, HasNo-nil, HasNo-cons, split_exists, split_or_none, split_same, text_or_not}
+use Rattle.cron_fields.proofs.Choice.{choose, choose-yes, choose-no, HasNo-nil, HasNo-cons, split_exists, split_or_none, split_same, text_or_not, le_or_not}
 
 -- a cause and a place
 abbrev pub At : Type 0
 At = ℕ × ℕ
-
-order_or_not : (a b : ℕ) → Decided (a ≤ b)
-order_or_not a b = ⊎_elim (λ above. inr (λ ordered. omega arith)) (λ ordered. inl ordered) (cases_lt b a)
 
 -- what a range is read as: its ends, or a fault
 abbrev pub ReadsRange : FieldKind → List ℕ → List ℕ → Result (ℕ × ℕ) At → Type 0
@@ -23,7 +20,7 @@ ReadsRange kind low high (Ok ends) = IsRange kind low high ends.0 ends.1
 ReadsRange kind low high (Err fault) = IsRangeFault kind low high fault.0 fault.1
 
 order_verdict : ℕ → ℕ → Result (ℕ × ℕ) At
-order_verdict a b = choose (order_or_not a b) (Ok (a, b)) (Err (5, 0))
+order_verdict a b = choose (le_or_not a b) (Ok (a, b)) (Err (5, 0))
 
 high_verdict : FieldKind → List ℕ → ℕ → ℕ → Result (ℕ × ℕ) At
 high_verdict kind low a b = choose (takes_or_not kind b) (order_verdict a b) (Err (3, length low + 1))
@@ -46,13 +43,13 @@ unfolding ends_verdict high_verdict order_verdict
 ends_order kind low a b p q less =
     let fails : a ≤ b → ⊥ = λ ordered. omega arith in
     choose-yes (takes_or_not kind a) (high_verdict kind low a b) (Err (3, 0)) p
-    ∙ (choose-yes (takes_or_not kind b) (order_verdict a b) (Err (3, length low + 1)) q ∙ choose-no (order_or_not a b) (Ok (a, b)) (Err (5, 0)) fails)
+    ∙ (choose-yes (takes_or_not kind b) (order_verdict a b) (Err (3, length low + 1)) q ∙ choose-no (le_or_not a b) (Ok (a, b)) (Err (5, 0)) fails)
 
 ends_ok : (kind : FieldKind) (low : List ℕ) (a b : ℕ) → TakesNumber kind a → TakesNumber kind b → a ≤ b → ends_verdict kind low a b ≡ Ok (a, b)
 unfolding ends_verdict high_verdict order_verdict
 ends_ok kind low a b p q ordered =
     choose-yes (takes_or_not kind a) (high_verdict kind low a b) (Err (3, 0)) p
-    ∙ (choose-yes (takes_or_not kind b) (order_verdict a b) (Err (3, length low + 1)) q ∙ choose-yes (order_or_not a b) (Ok (a, b)) (Err (5, 0)) ordered)
+    ∙ (choose-yes (takes_or_not kind b) (order_verdict a b) (Err (3, length low + 1)) q ∙ choose-yes (le_or_not a b) (Ok (a, b)) (Err (5, 0)) ordered)
 
 -- what follows from the reading of the high atom
 AfterHigh : FieldKind → List ℕ → ℕ → Result ℕ ℕ → Result (ℕ × ℕ) At → Type 0
@@ -119,7 +116,7 @@ ends_exist kind low high a b p q = ⊎_elim
       },
     ))
     (λ fails. (Err (5, 0), bad_order a b p q low_taken high_taken (above fails) refl refl))
-    (order_or_not a b))
+    (le_or_not a b))
     (λ fails. (Err (3, length low + 1), bad_high_number a b p q low_taken fails refl refl))
     (takes_or_not kind b))
     (λ fails. (Err (3, 0), bad_low_number a b p q fails refl refl))

@@ -15,7 +15,7 @@ use Rattle.crontab_text.specs.declared.answer.Style.{Style}
 use Rattle.crontab_text.proofs.AssignmentLemmas.{same_assignment}
 use Rattle.crontab_text.proofs.BlankLemmas.{same_skip}
 use Rattle.crontab_text.proofs.EntryLemmas.{break_within}
-use Rattle.crontab_text.proofs.ListLemmas.{eq_dec}
+use Rattle.std.proofs.lemmas.Bool.{cases_eq}
 use Rattle.crontab_text.proofs.NicknameLemmas.{nickname_or_not, some_fields_of, known_meaning}
 use Rattle.crontab_text.proofs.TotalLemmas.{some_skip, some_word, assignment_or_not, some_tail, some_fields}
 use Rattle.crontab_text.proofs.UniqueLemmas.{SameFault, same_entry, entry_or_fault, same_entry_fault, same_nick, nick_or_fault, same_nick_fault, fields_or_fault, same_behind}
@@ -210,9 +210,9 @@ some_nick style text =
 -- a text says something or breaks a rule
 some_says : (style : Style) (owner text : List ℕ) → ((body : LineBody) × LineSays style owner text body) ⊎ ((c : ℕ) × (l : ℕ) × Breaks style text c l)
 some_says style owner [] = inl (BlankBody, refl)
-some_says style owner (b ∷ bs) = elim (eq_dec b 35) [
+some_says style owner (b ∷ bs) = elim (cases_eq b 35) [
   | inl note ↦ inl (CommentBody, note)
-  | inr no_note ↦ elim (eq_dec b 64) [
+  | inr no_note ↦ elim (cases_eq b 64) [
     | inl under ↦ elim (some_nick style (b ∷ bs)) [
       | inl (f, u, a, is) ↦ inl (NickBody f u a, (under, is))
       | inr (c, l, fault) ↦ inr (c, l, inr (under, fault))

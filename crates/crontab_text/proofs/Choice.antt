@@ -1,10 +1,7 @@
 -- Facts that hold or don't.
 use Rattle.std.proofs.Common.{◌⊎◌, ℕ, ◌≤◌, List, [], ◌∷◌, inl, inr, arith}
 use Rattle.std.specs.List.{AllByRecursion}
-
--- the fact holds, or it doesn't
-abbrev pub Decided : Type 0 → Type 0
-Decided P = P ⊎ (P → ⊥)
+use Rattle.cron_fields.proofs.Choice.{Decided, le_or_not}
 
 pub decided_or : {P Q : Type 0} → Decided P → Decided Q → Decided (P ⊎ Q)
 decided_or (inl p) q = inl (inl p)
@@ -23,9 +20,6 @@ decided_all P each (x ∷ xs) = decided_and (each x) (decided_all P each xs)
 pub decided_not : {P : Type 0} → Decided P → Decided (P → ⊥)
 decided_not (inl p) = inr (λ none. none p)
 decided_not (inr p) = inl p
-
-pub le_or_not : (m n : ℕ) → Decided (m ≤ n)
-le_or_not m n = grind arith
 
 pub in_range : (low high c : ℕ) → Decided ((low ≤ c) × (c ≤ high))
 in_range low high c = decided_and (le_or_not low c) (le_or_not c high)

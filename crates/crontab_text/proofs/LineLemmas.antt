@@ -1,9 +1,9 @@
 -- The lines of a text.
 use Rattle.std.proofs.Common.{◌≡◌, ◌≢◌, ◌⊎◌, ℕ, ◌+◌, ◌<◌, ◌≤◌, ◌==◌, List, [], ◌∷◌, ◌++◌, length, get_or, refl, ap, ◌∙◌, append_assoc, length-append, sym, inl, inr, Bool, cond, true, false, arith}
 use Rattle.std.proofs.lemmas.List.{append-nil, append_cancel_right}
-use Rattle.std.proofs.lemmas.Bool.{ne_eqb}
+use Rattle.std.proofs.lemmas.Bool.{ne_eqb, cases_eq}
 use Rattle.crontab_text.specs.Lines.{Lacks, BeginsWithLine, begin_with, lines_of}
-use Rattle.crontab_text.proofs.ListLemmas.{LacksAny-from_get_or, eq_dec}
+use Rattle.crontab_text.proofs.ListLemmas.{LacksAny-from_get_or}
 
 -- a line up to a newline
 pub line_before_newline : (text line after : List ℕ) → text ≡ line ++ 10 ∷ after → ((i : ℕ) → i < length line → get_or line i 0 ≢ 10) → BeginsWithLine text line after
@@ -36,13 +36,13 @@ line_with_byte c text line after other begins = record { one_line = (other, begi
 -- each text that isn't empty begins with a line
 pub some_line : (text : List ℕ) → 0 < length text → (line : List ℕ) × (after : List ℕ) × BeginsWithLine text line after
 some_line [] some = absurd (omega arith)
-some_line (c ∷ []) some = elim (eq_dec c 10) [
+some_line (c ∷ []) some = elim (cases_eq c 10) [
   | inl is ↦ ([], [], record { one_line = tt; split = inl (ap (λ b. b ∷ []) is) })
   | inr other ↦ (c ∷ [], [], record { one_line = (other, tt); split = inr (refl, omega arith, refl) })
 ]
 some_line (c ∷ d ∷ ds) some =
     let (line, after, begins) = some_line (d ∷ ds) (omega arith) in
-    elim (eq_dec c 10) [
+    elim (cases_eq c 10) [
       | inl is ↦ ([], d ∷ ds, record { one_line = tt; split = inl (ap (λ b. b ∷ d ∷ ds) is) })
       | inr other ↦ (c ∷ line, after, line_with_byte c (d ∷ ds) line after other begins)
     ]
@@ -191,11 +191,11 @@ joined_byte c d front after other (inr joins) = inr (byte_before joins.above joi
 
 joined : (front after : List ℕ) → Joined front after
 joined [] after = inl (sym (ap (λ l. l ++ lines_of after) lines_of-none))
-joined (c ∷ []) after = elim (eq_dec c 10) as (λ _. Joined (c ∷ []) after) [
+joined (c ∷ []) after = elim (cases_eq c 10) as (λ _. Joined (c ∷ []) after) [
   | inl is ↦ rw is (joined_line [] after (joined [] after))
   | inr other ↦ joined_alone c after other
 ]
-joined (c ∷ d ∷ ds) after = elim (eq_dec c 10) as (λ _. Joined (c ∷ d ∷ ds) after) [
+joined (c ∷ d ∷ ds) after = elim (cases_eq c 10) as (λ _. Joined (c ∷ d ∷ ds) after) [
   | inl is ↦ rw is (joined_line (d ∷ ds) after (joined (d ∷ ds) after))
   | inr other ↦ joined_byte c d ds after other (joined (d ∷ ds) after)
 ]

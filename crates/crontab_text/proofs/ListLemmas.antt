@@ -1,5 +1,5 @@
 -- Lists cut at the first element of a kind.
-use Rattle.std.proofs.Common.{◌≡◌, ◌≢◌, ◌⊎◌, ℕ, ◌-◌, ◌<◌, ◌≤◌, zero, suc, List, [], ◌∷◌, ◌++◌, length, get_or, take, drop, refl, ◌∙◌, sym, subst, arith}
+use Rattle.std.proofs.Common.{◌≡◌, ℕ, ◌-◌, ◌<◌, ◌≤◌, zero, suc, List, [], ◌∷◌, ◌++◌, length, get_or, take, drop, refl, ◌∙◌, sym, subst, arith}
 use Rattle.std.proofs.lemmas.List.{append-nil, take-append-drop}
 use Rattle.std.proofs.lemmas.List.Elements.{All-from_get_or, recursion_from_All}
 use Rattle.crontab_text.specs.Blanks.{LacksAny, MayBeginWith, MayEndWith, IsFirstIndex, IsCutAt}
@@ -77,10 +77,6 @@ pub MayEndWith-last : (P : ℕ → Type 0) (front : List ℕ) (c : ℕ) → MayE
 MayEndWith-last P [] c ends = ends
 MayEndWith-last P (x ∷ []) c ends = ends
 MayEndWith-last P (x ∷ y ∷ front) c ends = MayEndWith-last P (y ∷ front) c ends
-
--- two numbers are equal or not
-pub eq_dec : (m n : ℕ) → (m ≡ n) ⊎ (m ≢ n)
-eq_dec m n = grind arith
 
 -- an element of a kind stands nowhere in a list that lacks the kind
 pub lacks_none : (P : ℕ → Type 0) (a : List ℕ) (c : ℕ) (x : List ℕ) → P c → LacksAny P (a ++ c ∷ x) → ⊥

@@ -5,7 +5,8 @@ use Rattle.std.proofs.lemmas.List.{drop_more, length-take-le, get_or-take}
 use Rattle.std.proofs.lemmas.Bool.Decides.{nat_tests}
 use Rattle.crontab_text.specs.Blanks.{LacksAny, MayBeginWith, IsFirstIndex}
 use Rattle.crontab_text.specs.Percent.{CommandPiece, TextPiece, NewLinePiece, IsPercent, spelled, IsPiece, MayFollowPiece, AreInOrder, ArePieces, BeginsWithPercent, BeginsWithEscape, SkipsEscape, MayEndBefore, BeginsWithPiece}
-use Rattle.crontab_text.proofs.ListLemmas.{lacks_before, MayEndWith-at_last, eq_dec}
+use Rattle.crontab_text.proofs.ListLemmas.{lacks_before, MayEndWith-at_last}
+use Rattle.std.proofs.lemmas.Bool.{cases_eq}
 
 -- how a text is written that doesn't begin with a percent sign
 pub spelled-other : (c : ℕ) (cs : List ℕ) → c ≢ 37 → spelled (TextPiece (c ∷ cs)) ≡ c ∷ cs
@@ -19,7 +20,7 @@ pub spelled_some : (piece : CommandPiece) (rest : List ℕ) → IsPiece piece �
 spelled_some NewLinePiece rest is e = cc
 spelled_some (TextPiece []) rest is e = is
 spelled_some (TextPiece (c ∷ cs)) rest is e =
-    elim (eq_dec c 37) as (λ _. ⊥) [
+    elim (cases_eq c 37) as (λ _. ⊥) [
       | inl same ↦ let w : 92 ∷ (c ∷ cs) ++ rest ≡ [] = subst (λ t. t ++ rest ≡ []) (spelled-percent c cs same) e in cc
       | inr other ↦ let w : c ∷ (cs ++ rest) ≡ [] = subst (λ t. t ++ rest ≡ []) (spelled-other c cs other) e in cc
     ]
@@ -33,7 +34,7 @@ pub bare_piece : (piece : CommandPiece) (rest : List ℕ) → IsPiece piece → 
 bare_piece NewLinePiece rest is begins = refl
 bare_piece (TextPiece []) rest is begins = absurd is
 bare_piece (TextPiece (c ∷ cs)) rest is begins =
-    elim (eq_dec c 37) as (λ _. TextPiece (c ∷ cs) ≡ NewLinePiece) [
+    elim (cases_eq c 37) as (λ _. TextPiece (c ∷ cs) ≡ NewLinePiece) [
       | inl same ↦ absurd (not_both 92 refl (subst (λ t. BeginsWithPercent (t ++ rest)) (spelled-percent c cs same) begins))
       | inr other ↦ absurd (other (subst (λ t. BeginsWithPercent (t ++ rest)) (spelled-other c cs other) begins))
     ]
@@ -65,7 +66,7 @@ follows_text text (c ∷ rest) (inl escape) NewLinePiece pieces are = absurd (no
 follows_text text (c ∷ rest) (inr bare) NewLinePiece pieces are = bare.1
 follows_text text (c ∷ rest) ends (TextPiece []) pieces are = absurd are.each.0
 follows_text text (c ∷ rest) ends (TextPiece (d ∷ ds)) pieces are =
-    elim (eq_dec d 37) as (λ _. d ≡ 37) [
+    elim (cases_eq d 37) as (λ _. d ≡ 37) [
       | inl same ↦ same
       | inr other ↦
           let e = are.command_is ∙ ap (λ t. t ++ flat_map spelled pieces) (spelled-other d ds other) in

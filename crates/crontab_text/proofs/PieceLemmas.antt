@@ -5,8 +5,9 @@ use Rattle.std.specs.Prelude.{◌==◌}
 use Rattle.std.proofs.lemmas.Bool.Decides.{nat_tests}
 use Rattle.crontab_text.specs.Blanks.{LacksAny}
 use Rattle.crontab_text.specs.Percent.{CommandPiece, TextPiece, NewLinePiece, IsPercent, spelled, IsPiece, AreInOrder, ArePieces, BeginsWithPercent, BeginsWithEscape, MayEndBefore, BeginsWithPiece, bytes_said, text_said_by}
-use Rattle.crontab_text.proofs.Choice.{Decided, decided_and}
-use Rattle.crontab_text.proofs.ListLemmas.{eq_dec}
+use Rattle.crontab_text.proofs.Choice.{decided_and}
+use Rattle.cron_fields.proofs.Choice.{Decided}
+use Rattle.std.proofs.lemmas.Bool.{cases_eq}
 use Rattle.crontab_text.proofs.PercentLemmas.{spelled-other, spelled-percent, spelled_some, bare_piece, no_escape, begins_with_text, begins_with_newline}
 
 -- the bytes of some pieces
@@ -15,11 +16,11 @@ bytes_of pieces = flat_map spelled pieces
 
 percent_or_not : (text : List ℕ) → Decided (BeginsWithPercent text)
 percent_or_not [] = inr (λ is. is)
-percent_or_not (c ∷ cs) = eq_dec c 37
+percent_or_not (c ∷ cs) = cases_eq c 37
 
 escape_or_not : (text : List ℕ) → Decided (BeginsWithEscape text)
 escape_or_not [] = inr (λ is. is)
-escape_or_not (c ∷ cs) = decided_and (eq_dec c 92) (percent_or_not cs)
+escape_or_not (c ∷ cs) = decided_and (cases_eq c 92) (percent_or_not cs)
 
 -- the rest of a text that begins with a byte, up to where it may end
 record TextEnd (c : ℕ) (cs : List ℕ) : Type 0 where
@@ -36,7 +37,7 @@ end_behind c d front (r ∷ rest) (inr bare) = inr bare
 
 text_end : (c : ℕ) (cs : List ℕ) → (BeginsWithEscape (c ∷ cs) → ⊥) → TextEnd c cs
 text_end c [] bare = record { front = []; rest = []; parts = refl; lacks = tt; ends = tt }
-text_end c (d ∷ ds) bare = elim (eq_dec d 37) [
+text_end c (d ∷ ds) bare = elim (cases_eq d 37) [
   | inl percent ↦ record { front = []; rest = d ∷ ds; parts = refl; lacks = tt; ends = inr (percent, λ is. bare (is, percent)) }
   | inr other ↦ elim (escape_or_not (d ∷ ds)) [
     | inl escape ↦ record { front = []; rest = d ∷ ds; parts = refl; lacks = tt; ends = inl escape }
@@ -84,7 +85,7 @@ escape_first (c ∷ []) escape = absurd escape.1
 escape_first (c ∷ d ∷ ds) escape = escaped_first c d ds escape.0 escape.1
 
 first_piece : (c : ℕ) (cs : List ℕ) → FirstPiece (c ∷ cs)
-first_piece c cs = elim (eq_dec c 37) [
+first_piece c cs = elim (cases_eq c 37) [
   | inl percent ↦ record {
     piece = NewLinePiece;
     rest = cs;
@@ -145,8 +146,8 @@ same_end c (a ∷ as') (d ∷ ds) ps qs lc ld ep eq p q e =
 
 -- the first text of a command
 same_text : (c d : ℕ) (cs ds : List ℕ) (ps qs : List CommandPiece) → LacksAny IsPercent cs → LacksAny IsPercent ds → AllByRecursion IsPiece ps → AllByRecursion IsPiece qs → AreInOrder (TextPiece (c ∷ cs) ∷ ps) → AreInOrder (TextPiece (d ∷ ds) ∷ qs) → spelled (TextPiece (c ∷ cs)) ++ bytes_of ps ≡ spelled (TextPiece (d ∷ ds)) ++ bytes_of qs → (c ≡ d) × (cs ≡ ds) × (bytes_of ps ≡ bytes_of qs)
-same_text c d cs ds ps qs lc ld ep eq p q e = elim (eq_dec c 37) [
-  | inl percent ↦ elim (eq_dec d 37) [
+same_text c d cs ds ps qs lc ld ep eq p q e = elim (cases_eq c 37) [
+  | inl percent ↦ elim (cases_eq d 37) [
     | inl also ↦
         let w : 92 ∷ c ∷ (cs ++ bytes_of ps) ≡ 92 ∷ d ∷ (ds ++ bytes_of qs) = ap (λ s. s ++ bytes_of ps) (sym (spelled-percent c cs percent)) ∙ (e ∙ ap (λ s. s ++ bytes_of qs) (spelled-percent d ds also)) in
         by_tail (percent ∙ sym also) w
@@ -154,7 +155,7 @@ same_text c d cs ds ps qs lc ld ep eq p q e = elim (eq_dec c 37) [
         let w : 92 ∷ c ∷ (cs ++ bytes_of ps) ≡ d ∷ (ds ++ bytes_of qs) = ap (λ s. s ++ bytes_of ps) (sym (spelled-percent c cs percent)) ∙ (e ∙ ap (λ s. s ++ bytes_of qs) (spelled-other d ds other)) in
         absurd (no_slash c d ds (cs ++ bytes_of ps) qs percent ld eq q w)
   ]
-  | inr other ↦ elim (eq_dec d 37) [
+  | inr other ↦ elim (cases_eq d 37) [
     | inl percent ↦
         let w : 92 ∷ d ∷ (ds ++ bytes_of qs) ≡ c ∷ (cs ++ bytes_of ps) = ap (λ s. s ++ bytes_of qs) (sym (spelled-percent d ds percent)) ∙ (sym e ∙ ap (λ s. s ++ bytes_of ps) (spelled-other c cs other)) in
         absurd (no_slash d c cs (ds ++ bytes_of qs) ps percent lc ep p w)
@@ -241,7 +242,7 @@ said_by_bytes (NewLinePiece ∷ pieces) each in_order =
 said_by_bytes (TextPiece [] ∷ pieces) each in_order = absurd each.0
 said_by_bytes (TextPiece (c ∷ cs) ∷ pieces) each in_order =
     let rest = said_by_bytes pieces each.1 (order_behind (TextPiece (c ∷ cs)) pieces in_order) in
-    elim (eq_dec c 37) as (λ _. text_said_by (bytes_of (TextPiece (c ∷ cs) ∷ pieces)) ≡ said_of (TextPiece (c ∷ cs) ∷ pieces)) [
+    elim (cases_eq c 37) as (λ _. text_said_by (bytes_of (TextPiece (c ∷ cs) ∷ pieces)) ≡ said_of (TextPiece (c ∷ cs) ∷ pieces)) [
       | inl percent ↦
           ap (λ s. text_said_by (s ++ bytes_of pieces)) (spelled-percent c cs percent)
           ∙ (said_escape c (cs ++ bytes_of pieces) percent ∙ ap (λ t. c ∷ t) (said_rest c cs pieces each.0 each.1 in_order rest))

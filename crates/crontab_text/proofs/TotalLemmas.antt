@@ -13,11 +13,12 @@ use Rattle.crontab_text.specs.Tail.{IsUser, IsUserByte, EndsWithCommand, IsComma
 use Rattle.crontab_text.specs.declared.answer.Style.{Style}
 use Rattle.crontab_text.specs.declared.answer.Style.TheVariants.{User, System}
 use Rattle.crontab_text.proofs.AssignmentLemmas.{in_quotes, has_quotes, assignment_from_steps, no_name_no_assignment, no_equals_no_assignment}
-use Rattle.crontab_text.proofs.Choice.{Decided, decided_or, decided_and, decided_all, decided_not, le_or_not, in_range}
-use Rattle.crontab_text.proofs.ListLemmas.{eq_dec}
+use Rattle.crontab_text.proofs.Choice.{decided_or, decided_and, decided_all, decided_not, in_range}
+use Rattle.cron_fields.proofs.Choice.{le_or_not, Decided}
+use Rattle.std.proofs.lemmas.Bool.{cases_eq}
 
 blank_or_not : (c : ℕ) → Decided (IsBlank c)
-blank_or_not c = decided_or (eq_dec c 32) (eq_dec c 9)
+blank_or_not c = decided_or (cases_eq c 32) (cases_eq c 9)
 
 -- the blanks that a text begins with can be skipped
 pub some_skip : (text : List ℕ) → (rest : List ℕ) × SkipsBlanks text rest
@@ -60,7 +61,7 @@ some_word text =
     (word, after, record { rest = rest; skips = skips; cut = cut })
 
 name_start_or_not : (c : ℕ) → Decided (IsNameStart c)
-name_start_or_not c = decided_or (in_range 97 122 c) (decided_or (in_range 65 90 c) (eq_dec c 95))
+name_start_or_not c = decided_or (in_range 97 122 c) (decided_or (in_range 65 90 c) (cases_eq c 95))
 
 name_byte_or_not : (c : ℕ) → Decided (IsNameByte c)
 name_byte_or_not c = decided_or (name_start_or_not c) (in_range 48 57 c)
@@ -73,7 +74,7 @@ pub user_or_not : (user : List ℕ) → Decided (IsUser user)
 user_or_not [] = inr (λ is. is)
 user_or_not (c ∷ cs) = elim (name_start_or_not c) [
   | inr none ↦ inr (λ is. none is.0)
-  | inl start ↦ elim (decided_all IsUserByte (λ d. decided_or (name_byte_or_not d) (decided_or (eq_dec d 46) (eq_dec d 45))) cs) [
+  | inl start ↦ elim (decided_all IsUserByte (λ d. decided_or (name_byte_or_not d) (decided_or (cases_eq d 46) (cases_eq d 45))) cs) [
     | inr none ↦ inr (λ is. none is.1)
     | inl all ↦ elim (le_or_not (length cs) 31) [
       | inr long ↦ inr (λ is. long is.2)
@@ -85,9 +86,9 @@ user_or_not (c ∷ cs) = elim (name_start_or_not c) [
 quotes_or_not : (text : List ℕ) → Decided (HasQuotes text)
 quotes_or_not text = elim (le_or_not 2 (length text)) [
   | inr short ↦ inr (λ quotes. short quotes.two)
-  | inl two ↦ elim (decided_or (eq_dec (get_or text 0 0) 34) (eq_dec (get_or text 0 0) 39)) [
+  | inl two ↦ elim (decided_or (cases_eq (get_or text 0 0) 34) (cases_eq (get_or text 0 0) 39)) [
     | inr none ↦ inr (λ quotes. none quotes.first)
-    | inl first ↦ elim (eq_dec (get_or text (length text - 1) 0) (get_or text 0 0)) [
+    | inl first ↦ elim (cases_eq (get_or text (length text - 1) 0) (get_or text 0 0)) [
       | inr other ↦ inr (λ quotes. other quotes.last)
       | inl last ↦ inl (record { two = two; first = first; last = last })
     ]
@@ -110,7 +111,7 @@ some_value text =
 -- a text begins with `=`, or with nothing of that kind
 equals_or_not : (text : List ℕ) → ((behind : List ℕ) × (text ≡ 61 ∷ behind)) ⊎ ((behind : List ℕ) → text ≢ 61 ∷ behind)
 equals_or_not [] = inr (λ behind e. cc)
-equals_or_not (c ∷ cs) = elim (eq_dec c 61) [
+equals_or_not (c ∷ cs) = elim (cases_eq c 61) [
   | inl is ↦ inl (cs, ap (λ b. b ∷ cs) is)
   | inr other ↦ inr (λ behind e. let head : c ≡ 61 = cc in other head)
 ]

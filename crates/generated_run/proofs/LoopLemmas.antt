@@ -1,5 +1,5 @@
 -- The text of a made run, part by part.
-use Rattle.std.proofs.Common.{◌≡◌, ℕ, zero, suc, ◌+◌, ◌*◌, ◌/◌, ◌%◌, ◌^◌, List, [], ◌∷◌, ◌++◌, map, sym, ap, subst, ◌∙◌, arith, codes, decimal, append-nil, append_assoc}
+use Rattle.std.proofs.Common.{◌≡◌, ℕ, suc, ◌+◌, ◌*◌, ◌/◌, ◌%◌, ◌^◌, List, [], ◌∷◌, ◌++◌, map, sym, ap, subst, ◌∙◌, arith, codes, decimal, append-nil, append_assoc}
 use Rattle.std.specs.Prelude.{flat_map}
 use Rattle.std.specs.List.{range_with_len}
 use Rattle.std.proofs.lemmas.Grind.{flat_map-append}
@@ -10,6 +10,7 @@ use Rattle.script_text.specs.declared.command.Command.{Command}
 use Rattle.generated_run.specs.Draws.{next_state, state_at, draw}
 use Rattle.generated_run.specs.Made.{hour_text, day_text, hourly_line, daily_line, hourly_lines, daily_lines, part_commands, first_parts}
 use Rattle.cron_io.specs.Lines.{text_of_lines}
+use Rattle.cron_io.proofs.ListLemmas.{range_more}
 
 -- more lines behind some lines
 pub text_more : (first now next : List ℕ) (lines more all : List (List ℕ)) → now ≡ first ++ text_of_lines lines → next ≡ now ++ text_of_lines more → all ≡ lines ++ more → next ≡ first ++ text_of_lines all
@@ -40,30 +41,13 @@ pub days_more : (seed number : ℕ) → daily_lines seed (number + 1) ≡ daily_
 unfolding daily_lines
 days_more seed number = map-range_with_len_more (daily_line seed) 0 number number (omega arith)
 
-range_more : (from count : ℕ) → range_with_len from (suc count) ≡ range_with_len from count ++ (from + count) ∷ []
-range_more from zero = ap (λ (n : ℕ). n ∷ []) (no_more from)
-  where
-    no_more : (n : ℕ) → n ≡ n + 0
-    no_more n = omega arith
-range_more from (suc count) = ap (λ (ns : List ℕ). from ∷ ns) (range_more (from + 1) count ∙ ap (λ (n : ℕ). range_with_len (from + 1) count ++ n ∷ []) (moved from count))
-  where
-    moved : (n m : ℕ) → n + 1 + m ≡ n + suc m
-    moved n m = omega arith
-
 pub parts_more : (seed number : ℕ) → map command_line (first_parts seed (number + 1)) ≡ map command_line (first_parts seed number) ++ map command_line (part_commands seed number)
 unfolding first_parts
 parts_more seed number =
-    ap (λ (n : ℕ). map command_line (flat_map (part_commands seed) (range_with_len 0 n))) (one_more number)
-    ∙ ap (map command_line) (ap (flat_map (part_commands seed)) (range_more 0 number ∙ ap (λ (n : ℕ). range_with_len 0 number ++ n ∷ []) (zero_more number))
+    ap (map command_line) (ap (flat_map (part_commands seed)) (range_more 0 number number (omega arith))
     ∙ flat_map-append (part_commands seed) (range_with_len 0 number) (number ∷ [])
     ∙ ap (λ (cs : List Command). flat_map (part_commands seed) (range_with_len 0 number) ++ cs) (append-nil (part_commands seed number)))
     ∙ map-append command_line (flat_map (part_commands seed) (range_with_len 0 number)) (part_commands seed number)
-  where
-    one_more : (n : ℕ) → n + 1 ≡ suc n
-    one_more n = omega arith
-
-    zero_more : (n : ℕ) → 0 + n ≡ n
-    zero_more n = omega arith
 
 -- the state of a seed at first
 pub state_first : (seed now : ℕ) → now ≡ seed → now ≡ state_at seed 0

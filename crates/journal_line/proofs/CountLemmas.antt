@@ -1,5 +1,6 @@
 -- Numbers of any length: each text says one at most, and one below 2^64 is what `decimal` writes.
-use Rattle.std.proofs.Common.{◌≡◌, ◌⊎◌, ℕ, zero, suc, ◌<◌, ◌≤◌, ◌^◌, List, [], ◌∷◌, length, get_or, Err, inl, inr, refl, ap, sym, ◌∙◌, arith, decimal}
+use Rattle.std.proofs.Common.{◌≡◌, ℕ, zero, suc, ◌<◌, ◌^◌, List, [], ◌∷◌, length, get_or, Err, inl, inr, refl, ap, sym, ◌∙◌, arith, decimal}
+use Rattle.std.proofs.lemmas.Bool.{cases_lt}
 use Rattle.std.specs.List.{AllByRecursion}
 use Rattle.std.specs.Str.Parse.{digits_value, ParsesUnsigned}
 use Rattle.std.proofs.lemmas.Str.Parse.{IsNumeralModel, numerals_by_value, parse_digits}
@@ -12,16 +13,13 @@ use Rattle.journal_line.specs.declared.line.Count.TheVariants.{Number, Larger}
 own : IsNumeralModel (AllByRecursion IsDigit) (digits_value 10)
 own = numerals_by_value (AllByRecursion IsDigit) (record { empty = tt; parts = λ c cs d. d; more = λ c cs k d. (k, d) })
 
-below_or_not : (m n : ℕ) → (m < n) ⊎ (n ≤ m)
-below_or_not m n = grind arith
-
 -- digits that `parse` doesn't take are those of a larger number
 pub larger : {E : Type 0} (text : List ℕ) (e : E) → IsDecimal text → ParsesUnsigned 64 10 text (Err e) → IsCountText Larger text
 larger {E} text e is parsed =
     let refused : (0 < length text) × (digits_value 10 text < 2 ^ 64) → ⊥ = parse_digits own {E = E} 64 text (Err e) parsed is.digits in
     record {
       decimal = is;
-      value = elim (below_or_not (digits_value 10 text) (2 ^ 64)) [ inl less ↦ absurd (refused (is.some, less)) | inr more ↦ more ];
+      value = elim (cases_lt (digits_value 10 text) (2 ^ 64)) [ inl less ↦ absurd (refused (is.some, less)) | inr more ↦ more ];
     }
 
 -- what `decimal` writes has no leading zero
@@ -57,7 +55,7 @@ count_no_space count text is = digits_lack text is.decimal.digits
 
 -- each text in decimal says a number
 pub some_count : (text : List ℕ) → IsDecimal text → (count : Count) × IsCountText count text
-some_count text is = elim (below_or_not (digits_value 10 text) (2 ^ 64)) [
+some_count text is = elim (cases_lt (digits_value 10 text) (2 ^ 64)) [
   | inl less ↦ (Number (digits_value 10 text), record { decimal = is; value = (less, refl) })
   | inr more ↦ (Larger, record { decimal = is; value = more })
 ]

@@ -1,11 +1,11 @@
 -- The words of a turn have one reading.
-use Rattle.std.proofs.Common.{◌≡◌, ◌≢◌, ℕ, ◌+◌, ℤ, ◌==◌, if◌then◌else◌, Bool, true, false, List, ◌∷◌, ◌++◌, get_or, Option, Some, None, refl, ap, sym, subst, ◌∙◌, arith, rules, codes}
+use Rattle.std.proofs.Common.{◌≡◌, ◌≢◌, ℕ, ◌+◌, ◌==◌, if◌then◌else◌, Bool, true, false, List, ◌∷◌, ◌++◌, get_or, Option, Some, None, refl, ap, sym, subst, ◌∙◌, arith, rules, codes}
 use Rattle.paxos_base.specs.declared.entry.Kind.{Kind}
 use Rattle.paxos_base.specs.declared.entry.Kind.TheVariants.{Launch, Void}
 use Rattle.script_text.specs.Command.{fate_word}
 use Rattle.script_text.specs.declared.command.FateWord.{FateWord}
-use Rattle.script_text.specs.declared.command.FateWord.TheVariants.{Done, LostBefore, LostAfter, Late}
 use Rattle.script_text.proofs.CutLemmas.{same_cut}
+use Rattle.script_text.proofs.UniqueLemmas.{same_fate, same_minute}
 use Rattle.zone_minutes.specs.declared.minute.Minute.{Minute}
 use Rattle.zone_minutes.proofs.StampLemmas.{stamp_text-injective}
 use Rattle.journal_line.specs.Line.{IsStamp, kind_text, kept_text, IsCause, IsAnswerText, IsCallWith, IsCall, IsTurn}
@@ -62,31 +62,9 @@ kept_is false = refl
 same_kept : (a b : Bool) → kept_text a ≡ kept_text b → a ≡ b
 same_kept a b is = sym (kept_is a) ∙ ap kept_of is ∙ kept_is b
 
--- a fate by the second and the sixth letter of its word
-abbrev fate_at : ℕ → FateWord
-fate_at n =
-    if n == 111 then Done else
-    if n == 209 then LostBefore else
-    if n == 208 then LostAfter else
-    Late
-
-abbrev fate_of : List ℕ → FateWord
-fate_of word = fate_at (get_or word 1 0 + get_or word 5 0)
-
-fate_is : (fate : FateWord) → fate_of (fate_word fate) ≡ fate
-fate_is Done = refl
-fate_is LostBefore = refl
-fate_is LostAfter = refl
-fate_is Late = refl
-
-same_fate : (a b : FateWord) → fate_word a ≡ fate_word b → a ≡ b
-same_fate a b is = sym (fate_is a) ∙ ap fate_of is ∙ fate_is b
-
 same_stamp : (a b : Minute) (text : List ℕ) → IsStamp a text → IsStamp b text → a ≡ b
 same_stamp a b text p q =
-    let minute : ℤ → Minute = λ at. record { 0 = at } in
-    let same : minute a.0 ≡ minute b.0 = ap minute (stamp_text-injective a.0 b.0 p.calendar q.calendar (sym p.is ∙ q.is)) in
-    same
+    same_minute a b (stamp_text-injective a.0 b.0 p.calendar q.calendar (sym p.is ∙ q.is))
 
 -- ---- causes
 

@@ -1,11 +1,10 @@
 -- The logical lines of a text are made of all its lines.
 use Rattle.std.proofs.Common.{◌≡◌, ℕ, ◌+◌, ◌≤◌, ◌==◌, Bool, true, false, cond, if◌then◌else◌, List, [], ◌∷◌, ◌++◌, length, count_by, refl, ap, ◌∙◌, inl, inr, arith}
 use Rattle.std.specs.List.{AllByRecursion, sum_by}
-use Rattle.std.proofs.lemmas.Bool.{ne_eqb}
+use Rattle.std.proofs.lemmas.Bool.{ne_eqb, cases_eq}
 use Rattle.std.proofs.lemmas.List.Sums.{sum_by-append, sum_by-cons}
 use Rattle.crontab_text.specs.Lines.{Lacks, begin_with, lines_of}
 use Rattle.crontab_text.proofs.LineLemmas.{lines_at_most}
-use Rattle.crontab_text.proofs.ListLemmas.{eq_dec}
 use Rattle.anacron_text.specs.LogicalLines.{before_lines, joined, is_continued, line_count, logical_lines}
 use Rattle.anacron_text.specs.declared.settings.Settings.{Settings}
 use Rattle.run_text.specs.Anacrontab.{IsFirstBreak}
@@ -18,7 +17,7 @@ begin_lacks c (line ∷ lines) other all = ((other, all.0), all.1)
 lines_lack : (text : List ℕ) → AllByRecursion (Lacks 10) (lines_of text)
 unfolding lines_of
 lines_lack [] = tt
-lines_lack (c ∷ cs) = elim (eq_dec c 10) [
+lines_lack (c ∷ cs) = elim (cases_eq c 10) [
   | inl is ↦ let here : (c == 10) ≡ true = rw is refl in rw here (tt, lines_lack cs)
   | inr other ↦ let here : (c == 10) ≡ false = ne_eqb c 10 other in rw here (begin_lacks c (lines_of cs) other (lines_lack cs))
 ]

@@ -9,7 +9,8 @@ use Rattle.run_text.specs.Reading.{ReadsFrom, IsRunText, IsFrameText}
 use Rattle.run_text.specs.Run.{Section, Run, opened, with_line}
 use Rattle.run_text.specs.Table.{Says, AreSaid}
 use Rattle.run_text.specs.declared.table.Tables.TheVariants.{Judged, Counted}
-use Rattle.run_text.proofs.SoundLemmas.{all_next, all_push}
+use Rattle.run_text.proofs.SoundLemmas.{all_next}
+use Rattle.cron_io.proofs.ListLemmas.{all_push}
 
 -- a line that may stand where lines are judged may stand where they are counted
 counted_line : (number behind : ℕ) (above next : Above) (line : List ℕ) → MayStandBelow Judged number behind above line next → MayStandBelow Counted number behind above line next

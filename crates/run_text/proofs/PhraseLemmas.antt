@@ -1,29 +1,17 @@
 -- The lines of a run file that hold a phrase.
-use Rattle.std.proofs.Common.{◌≡◌, ◌≢◌, ℕ, ◌<◌, ◌≤◌, List, [], ◌∷◌, ◌++◌, length, get_or, Some, None, Bor, refl, ap, ◌∙◌, sym, subst, arith, rules, codes, decimal}
+use Rattle.std.proofs.Common.{◌≡◌, ◌≢◌, ℕ, ◌<◌, ◌≤◌, List, [], ◌∷◌, ◌++◌, length, get_or, refl, ap, ◌∙◌, sym, arith, rules, codes, decimal}
 use Rattle.std.specs.List.{AllByRecursion}
-use Rattle.std.specs.Str.Pattern.{FindsTextPrefix, StripsPrefix}
-use Rattle.std.proofs.lemmas.Str.Pattern.{IsSplitOnceResult, split_parts}
 use Rattle.std.proofs.lemmas.List.{append_cancel_left}
 use Rattle.std.proofs.lemmas.Fmt.{decimal_injective}
 use Rattle.run_text.specs.Grammar.{IsLabelStart, IsLabelByte, IsLabel, IsZoneByte, IsZoneName, replicas_line, IsReplicasLine, IsGraceLine, section_word, IsSectionLine, HasSectionWord}
 use Rattle.run_text.specs.declared.run.SectionKind.{SectionKind}
 use Rattle.run_text.specs.declared.run.SectionKind.TheVariants.{User, System, Anacron}
-use Rattle.run_text.proofs.ListLemmas.{Lacks, same_cut, lacks_none}
-use Rattle.script_text.proofs.CutLemmas.{Lacks-from_get_or}
+use Rattle.run_text.proofs.ListLemmas.{Lacks, same_cut}
+use Rattle.script_text.proofs.CutLemmas.{Lacks-from_get_or, IsCutAtSpace}
 
 -- what the parts of `split_once` at a space lack
 pub lacks_space : (text : List ℕ) → ((i : ℕ) → i < length text → get_or text i 0 ≢ 32) → Lacks 32 text
 lacks_space text none = Lacks-from_get_or 32 text none
-
--- a text is cut at its first space
-pub record IsCutAtSpace (text front back : List ℕ) : Type 0 where
-  pub parts : text ≡ front ++ 32 ∷ back
-  pub lacks : Lacks 32 front
-
-pub cut_at_space : (text : List ℕ) (parts : Bor (List ℕ) × Bor (List ℕ)) → IsSplitOnceResult 32 text (Some parts) → IsCutAtSpace text parts.0.now parts.1.now
-cut_at_space text parts split =
-    let (is, lacks) = split_parts 32 text (Some parts) split (omega arith) in
-    record { parts = is; lacks = lacks_space parts.0.now lacks }
 
 pub same_space : (text a b x y : List ℕ) → IsCutAtSpace text a x → text ≡ b ++ 32 ∷ y → Lacks 32 b → (a ≡ b) × (x ≡ y)
 same_space text a b x y cut is lacks =

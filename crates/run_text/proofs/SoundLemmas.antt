@@ -20,6 +20,7 @@ use Rattle.run_text.specs.declared.run.SectionKind.{SectionKind}
 use Rattle.run_text.specs.declared.table.Tables.TheVariants.{Judged}
 use Rattle.run_text.proofs.AnacrontabLemmas.{say_none}
 use Rattle.run_text.proofs.OffsetLemmas.{offset_in_range}
+use Rattle.cron_io.proofs.ListLemmas.{all_push}
 
 -- what is known of the lines of a section so far: those of an anacrontab are judged at its last
 abbrev SoFar : Option Style → (label : List ℕ) → List (List ℕ) → Type 0
@@ -40,10 +41,6 @@ Good number (End run) = IsSoundRun number run
 pub all_next : (P Q : Section → Type 0) (xs : List Section) → ((x : Section) → P x → Q x) → AllByRecursion P xs → AllByRecursion Q xs
 all_next P Q [] f all = tt
 all_next P Q (x ∷ xs) f all = (f x all.0, all_next P Q xs f all.1)
-
-pub all_push : {X : Type 0} (P : X → Type 0) (xs : List X) (x : X) → AllByRecursion P xs → P x → AllByRecursion P (xs ++ x ∷ [])
-all_push P [] x all px = (px, tt)
-all_push P (y ∷ ys) x all px = (all.0, all_push P ys x all.1 px)
 
 later_section : (number next : ℕ) → number ≤ next → (section : Section) → IsSoundSection number section → IsSoundSection next section
 later_section number next le section sound = record { said = sound.said; within = omega (arith, sound.within) }

@@ -10,7 +10,8 @@ use Rattle.run_text.specs.Run.{bytes_or_none}
 use Rattle.run_text.specs.Zones.{IsOffsetText, IsSourceText, fixed, posix, tzif, IsHexText, IsZoneLine, HasZoneWord}
 use Rattle.run_text.proofs.ListLemmas.{Lacks}
 use Rattle.run_text.proofs.OffsetLemmas.{one_offset}
-use Rattle.run_text.proofs.PhraseLemmas.{IsCutAtSpace, same_space, zone_no_space}
+use Rattle.run_text.proofs.PhraseLemmas.{same_space, zone_no_space}
+use Rattle.script_text.proofs.CutLemmas.{IsCutAtSpace}
 
 -- two texts with another byte at a place
 texts_differ : {a b : List ℕ} (place : ℕ) → a ≡ b → (get_or a place 0 ≡ get_or b place 0 → ⊥) → ⊥

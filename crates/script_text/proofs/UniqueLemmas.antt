@@ -122,7 +122,7 @@ same_numbers name m n x y one two three four is =
     let parts = same_front name (decimal m) (decimal n) (decimal x) (decimal y) (decimal_no_space m one) (decimal_no_space n two) is in
     (decimal_injective m n one two parts.0, decimal_injective x y three four parts.1)
 
-same_minute : (a b : Minute) → a.0 ≡ b.0 → a ≡ b
+pub same_minute : (a b : Minute) → a.0 ≡ b.0 → a ≡ b
 same_minute a b is =
     let minute : ℤ → Minute = λ at. record { 0 = at } in
     let same : minute a.0 ≡ minute b.0 = ap minute is in
@@ -154,7 +154,7 @@ fate_is LostBefore = refl
 fate_is LostAfter = refl
 fate_is Late = refl
 
-same_fate : (a b : FateWord) → fate_word a ≡ fate_word b → a ≡ b
+pub same_fate : (a b : FateWord) → fate_word a ≡ fate_word b → a ≡ b
 same_fate a b is = sym (fate_is a) ∙ ap fate_of is ∙ fate_is b
 
 module _ (line : List ℕ) (m n : ℕ) (v w : Window) (small : m < 2 ^ 8) (few : n < 2 ^ 8) where

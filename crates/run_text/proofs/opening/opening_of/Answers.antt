@@ -1,10 +1,10 @@
 use Rattle.std.proofs.Common.{ℕ, List, sym, subst}
 use Rattle.run_text.specs.Grammar.{IsLabel, IsZoneName, IsSectionLine}
 use Rattle.run_text.specs.declared.run.SectionKind.{SectionKind}
-use Rattle.run_text.proofs.PhraseLemmas.{behind_word, behind_label, behind_zone, section_from_parts, cut_at_space}
+use Rattle.run_text.proofs.PhraseLemmas.{behind_word, behind_label, behind_zone, section_from_parts}
 use Rattle.run_text.proofs.opening.opening_of.Goals as goal
 use Rattle.crontab_text.proofs.VariantLemmas.{if_none}
-use Rattle.script_text.proofs.CutLemmas.{no_space}
+use Rattle.script_text.proofs.CutLemmas.{no_space, cut_at_space}
 
 pub returns-in_err-kind-clause-none : goal.returns-in_err-kind-clause-none
 returns-in_err-kind-clause-none c =

@@ -5,8 +5,7 @@ use Rattle.run_text.specs.Zones.{IsZoneLine}
 use Rattle.run_text.proofs.ZoneLemmas.{behind_zone_word, behind_name, source_behind, zone_from_parts}
 use Rattle.run_text.proofs.zone.zone_of.Goals as goal
 use Rattle.crontab_text.proofs.VariantLemmas.{if_none}
-use Rattle.script_text.proofs.CutLemmas.{strips, no_space}
-use Rattle.run_text.proofs.PhraseLemmas.{cut_at_space}
+use Rattle.script_text.proofs.CutLemmas.{strips, no_space, cut_at_space}
 
 pub returns-in_err-name-clause-none : goal.returns-in_err-name-clause-none
 returns-in_err-name-clause-none c =
