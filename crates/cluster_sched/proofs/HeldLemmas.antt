@@ -64,7 +64,7 @@ found : (held : List SchedRow) (k : ℕ) (row default : SchedRow) → slice_get 
 found held k row default at =
     sym (unwrap_or-slice_get held k default) ∙ ap (λ (o : Option SchedRow). unwrap_or o default) at
 
-once_behind : (row : SchedRow) (held : List SchedRow) → AreNamedOnce (row ∷ held) → AreNamedOnce held
+pub once_behind : (row : SchedRow) (held : List SchedRow) → AreNamedOnce (row ∷ held) → AreNamedOnce held
 once_behind row held once i j d before within = once (suc i) (suc j) d (omega (arith, before)) (omega (arith, within))
 
 -- each row is the first under its name

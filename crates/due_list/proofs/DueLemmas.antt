@@ -13,6 +13,7 @@ use Rattle.due_set.specs.Table.{Table, IsAfter, IsJobDue, IsJobDueList, IsNextDu
 use Rattle.due_set.proofs.Rising.{Contains-none, IsRising-push}
 use Rattle.due_set.proofs.TableLemmas.{cases_ltℤ}
 use Rattle.due_list.specs.Parts.{numbers_of_instants}
+use Rattle.due_set.proofs.CountLemmas.{abs_below}
 
 -- the instant, where there is one, is in the window
 abbrev pub IsInside : Window → Option ℤ → Type 0
@@ -105,11 +106,6 @@ abs_le (pos m) (pos n) from le = omega (arith, ints)
 abs_le (pos m) (negsuc n) from le = absurd (omega (arith, ints))
 abs_le (negsuc m) y from le = absurd (omega (arith, ints))
 
-abs_less : (x y : ℤ) → pos 0 ≤ℤ x → x <ℤ y → unsigned_abs x < unsigned_abs y
-abs_less (pos m) (pos n) from lt = omega (arith, ints)
-abs_less (pos m) (negsuc n) from lt = absurd (omega (arith, ints))
-abs_less (negsuc m) y from lt = absurd (omega (arith, ints))
-
 pub fewer_left : (table : Table) (number : ℕ) (last : Option ℤ) (t : ℤ) → IsNextDue table number last t → minutes_left table.window (Some t) < minutes_left table.window last
 fewer_left table number last t next = by_last last next.later
   where
@@ -126,7 +122,7 @@ fewer_left table number last t next = by_last last next.later
     by_last (Some b) later =
         let after : b <ℤ t = later in
         let before : t <ℤ table.window.until.0 = in_window.before in
-        abs_less (table.window.until.0 -ℤ t) (table.window.until.0 -ℤ b) (omega (arith, ints)) (omega (arith, ints))
+        abs_below (table.window.until.0 -ℤ t) (table.window.until.0 -ℤ b) (omega (arith, ints)) (omega (arith, ints))
 
 -- each of the minutes is a due instant
 pub each_due : (table : Table) (number : ℕ) (minutes : List Minute) → IsJobDueList table number (numbers_of_instants minutes) → All (λ minute. IsJobDue table number minute.0) minutes

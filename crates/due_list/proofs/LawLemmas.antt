@@ -1,5 +1,5 @@
 -- Each table has one due list, and each frame one check.
-use Rattle.std.proofs.Common.{◌≡◌, ℕ, zero, suc, ◌+◌, ◌<◌, List, [], ◌∷◌, ◌++◌, length, map, flat_map, codes, zip, Option, None, Some, ℤ, refl, sym, ap, ◌∙◌, subst, arith, inl, inr}
+use Rattle.std.proofs.Common.{◌≡◌, ℕ, zero, suc, ◌+◌, ◌<◌, List, [], ◌∷◌, ◌++◌, length, map, flat_map, codes, zip, Option, None, Some, ℤ, refl, sym, ap, ◌∙◌, subst, arith}
 use Rattle.std.specs.Prelude.{Contains, slice_get}
 use Rattle.std.specs.List.{range_with_len}
 use Rattle.std.proofs.lemmas.List.Elements.{Contains-append_left}
@@ -11,7 +11,7 @@ use Rattle.due_set.specs.Table.{Job, Table, IsJobDue, IsJobIn, IsJobRead, IsSoun
 use Rattle.due_set.specs.declared.job.JobKind.{JobKind}
 use Rattle.due_set.specs.declared.job.JobKind.TheVariants.{Crontab, Anacron, Never}
 use Rattle.due_set.proofs.ExistLemmas.{due_list}
-use Rattle.due_set.proofs.Rising.{Contains-tail}
+use Rattle.due_set.proofs.Rising.{Contains-tail, Contains-map, Contains-range_with_len}
 use Rattle.due_set.proofs.SoundLemmas.{zone_is_read}
 use Rattle.due_set.proofs.TableLemmas.{IsJobDueList-same, same_job}
 use Rattle.cluster_sched.specs.Names.{name_text}
@@ -19,20 +19,18 @@ use Rattle.cluster_sched.specs.declared.row.Name.{Name}
 use Rattle.crontab_text.specs.Answers.{LineAnswer, IsAnswer}
 use Rattle.crontab_text.specs.declared.answer.Style.{Style}
 use Rattle.crontab_text.proofs.AnswerLemmas.{same_answer, some_answer as some_crontab_answer}
-use Rattle.anacron_text.specs.Answers.{AnacronLineAnswer, Said, Broken, IsAnacronAnswer, SetsByAnswer, AreAnswersBelow}
-use Rattle.anacron_text.specs.LineBody.{BlankBody, CommentBody, AssignBody, JobBody}
+use Rattle.anacron_text.specs.Answers.{AnacronLineAnswer}
 use Rattle.anacron_text.specs.LogicalLines.{joined, line_count}
 use Rattle.anacron_text.specs.Settings.{no_settings}
 use Rattle.anacron_text.specs.declared.settings.Settings.{Settings}
-use Rattle.anacron_text.proofs.ChoiceLemmas.{sets_or_bad}
-use Rattle.anacron_text.proofs.AnswerLemmas.{same_answers_below, some_answer, some_sets_by as some_next, some_answers_below}
+use Rattle.anacron_text.proofs.AnswerLemmas.{same_answers_below, some_answers_below}
 use Rattle.cron_io.specs.Lines.{text_of_lines}
 use Rattle.run_text.specs.Follow.{style_of}
 use Rattle.run_text.specs.Run.{Run, Section}
 use Rattle.due_list.specs.CheckText.{AreAnacrontabFaults, AreCrontabFaults, AreFaultsBy, AreFaultsOf, IsCheckText, anacrontab_fault, check_lines, crontab_fault, numbers_from}
 use Rattle.due_list.specs.DueText.{AreEntryLines, AreLinesBy, AreLinesOfJob, AreLinesOfJobs, HasLine, IsDueText, anacron_line, due_line, due_lines, due_job_line, local_text}
 use Rattle.due_list.specs.declared.fault.TableFault.{TableFault}
-use Rattle.due_list.proofs.ListLemmas.{Contains-map, Contains-parts, cut_at, range_member, same_zip, some_zip, zip_member}
+use Rattle.due_list.proofs.ListLemmas.{Contains-parts, cut_at, same_zip, some_zip, zip_member}
 
 -- the zone of a job, as it is read, shows one local time
 same_local : (table : Table) (number : ℕ) (j k : Job) (z w : TimeZone) → IsJobIn table number j z → IsJobIn table number k w → (t : ℤ) → local_of z t ≡ local_of w t
@@ -133,7 +131,7 @@ pub has_due_line : (table : Table) (text : List ℕ) (number : ℕ) (at : ℤ) �
 has_due_line table text number at is due =
     let below : number < length table.jobs = slice_get_within table.jobs number due.job due.is_in.is_job in
     let zero_plus : 0 + number ≡ number = omega arith in
-    let among : Contains (range_with_len 0 (length table.jobs)) number = subst (Contains (range_with_len 0 (length table.jobs))) zero_plus (range_member 0 (length table.jobs) number below) in
+    let among : Contains (range_with_len 0 (length table.jobs)) number = subst (Contains (range_with_len 0 (length table.jobs))) zero_plus (Contains-range_with_len 0 (length table.jobs) number below) in
     let part = zip_member (AreLinesOfJob table) (range_with_len 0 (length table.jobs)) is.parts number is.are among in
     let line = due_line table number due.zone at in
     let all = flat_map (λ (p : List (List ℕ)). p) is.parts in

@@ -19,7 +19,8 @@ use Rattle.due_list.specs.CheckText.{check_lines, fault_line}
 use Rattle.due_list.specs.DueText.{AreEntryLines, AreLinesBy, AreLinesOfJob, IsDueText, anacron_line, due_line, due_job_line, local_text}
 use Rattle.due_list.specs.Parts.{AppendsJobs, AppendsLines, numbers_of_instants}
 use Rattle.due_list.specs.declared.fault.TableFault.{TableFault}
-use Rattle.due_list.proofs.ListLemmas.{parts_push, range_more, zip_push}
+use Rattle.due_list.proofs.ListLemmas.{parts_push, zip_push}
+use Rattle.cron_io.proofs.ListLemmas.{range_more}
 use Rattle.cron_io.proofs.LineLemmas.{text_of_lines-append as text_append}
 
 -- a stamp ends with its `Z`
@@ -163,7 +164,7 @@ pub jobs_more : (table : Table) (number : ℕ) (old mid new : List ℕ) → Appe
     → AppendsJobs table (range_with_len 0 (number + 1)) old new
 jobs_more table number old mid new known added =
     let at : 0 + number ≡ number = omega arith in
-    let numbers : range_with_len 0 (number + 1) ≡ range_with_len 0 number ++ number ∷ [] = range_more 0 number ∙ ap (λ (n : ℕ). range_with_len 0 number ++ n ∷ []) at in
+    let numbers : range_with_len 0 (number + 1) ≡ range_with_len 0 number ++ number ∷ [] = range_more 0 number number at in
     let whole = flat_map (λ (part : List (List ℕ)). part) known.parts in
     subst (λ (l : List ℕ). AppendsJobs table l old new) (sym numbers)
     (record {

@@ -1,26 +1,13 @@
 -- Lists that go on, and the members of lists of parts.
-use Rattle.std.proofs.Common.{◌≡◌, ℕ, zero, suc, ◌+◌, ◌<◌, List, [], ◌∷◌, ◌++◌, length, map, take, get_or, inl, inr, refl, sym, ap, ◌∙◌, subst, arith, append_assoc, append-nil}
+use Rattle.std.proofs.Common.{◌≡◌, ℕ, ◌+◌, ◌<◌, List, [], ◌∷◌, ◌++◌, length, map, take, get_or, inl, inr, refl, sym, ap, ◌∙◌, subst, arith, append_assoc, append-nil}
 use Rattle.std.specs.Prelude.{Contains, flat_map}
-use Rattle.std.specs.List.{AllZip, range_with_len}
+use Rattle.std.specs.List.{AllZip}
 use Rattle.std.proofs.lemmas.Grind.{flat_map-append}
 use Rattle.std.proofs.lemmas.List.{map-append, take_more}
 use Rattle.std.proofs.lemmas.List.Elements.{Contains-append_left, Contains-append_right}
 use Rattle.due_set.proofs.Rising.{Contains-head, Contains-tail, Contains-cases, Contains-none}
 use Rattle.cron_io.specs.Lines.{text_of_lines}
 use Rattle.cron_io.proofs.LineLemmas.{text_of_lines-append as text_append}
-
--- one number more
-pub range_more : (a n : ℕ) → range_with_len a (n + 1) ≡ range_with_len a n ++ (a + n) ∷ []
-range_more a n = ap (range_with_len a) plus ∙ by_steps a n
-  where
-    plus : n + 1 ≡ suc n
-    plus = omega arith
-
-    by_steps : (a n : ℕ) → range_with_len a (suc n) ≡ range_with_len a n ++ (a + n) ∷ []
-    by_steps a zero = let e : a ≡ a + 0 = omega arith in ap (λ (x : ℕ). x ∷ []) e
-    by_steps a (suc n) =
-        let e : (a + 1) + n ≡ a + suc n = omega arith in
-        ap (λ (l : List ℕ). a ∷ l) (by_steps (a + 1) n ∙ ap (λ (x : ℕ). range_with_len (a + 1) n ++ x ∷ []) e)
 
 -- the items before a place, and the one there
 take_push : {X : Type 0} (xs : List X) (i : ℕ) (x : X) → i < length xs → x ≡ get_or xs i x → take (i + 1) xs ≡ take i xs ++ x ∷ []
@@ -84,13 +71,6 @@ Contains-parts (first ∷ parts) part x h member = elim (Contains-cases first pa
   | inr more ↦ Contains-append_right first (flat_map (λ p. p) parts) x (Contains-parts parts part x more member)
 ]
 
-pub Contains-map : {X Y : Type 0} (f : X → Y) (xs : List X) (x : X) → Contains xs x → Contains (map f xs) (f x)
-Contains-map f [] x h = absurd (Contains-none x h)
-Contains-map f (first ∷ xs) x h = elim (Contains-cases first xs x h) [
-  | inl e ↦ subst (λ y. Contains (f first ∷ map f xs) (f y)) e (Contains-head (f first) (map f xs))
-  | inr more ↦ Contains-tail (f first) (map f xs) (f x) (Contains-map f xs x more)
-]
-
 -- what stands before a member, and behind it
 pub cut_at : {X : Type 0} (xs : List X) (x : X) → Contains xs x → (front : List X) × (back : List X) × (xs ≡ front ++ x ∷ back)
 cut_at [] x h = absurd (Contains-none x h)
@@ -98,10 +78,3 @@ cut_at (first ∷ xs) x h = elim (Contains-cases first xs x h) [
   | inl e ↦ ([], xs, ap (λ y. y ∷ xs) e)
   | inr more ↦ (let rest = cut_at xs x more in (first ∷ rest.0, rest.1, ap (λ l. first ∷ l) rest.2))
 ]
-
-pub range_member : (a n k : ℕ) → k < n → Contains (range_with_len a n) (a + k)
-range_member a zero k lt = absurd (omega arith)
-range_member a (suc n) zero lt = let e : a ≡ a + 0 = omega arith in subst (Contains (range_with_len a (suc n))) e (Contains-head a (range_with_len (a + 1) n))
-range_member a (suc n) (suc k) lt =
-    let e : (a + 1) + k ≡ a + suc k = omega arith in
-    Contains-tail a (range_with_len (a + 1) n) (a + suc k) (subst (Contains (range_with_len (a + 1) n)) e (range_member (a + 1) n k (omega arith)))

@@ -1,8 +1,9 @@
 -- Rising lists of instants.
-use Rattle.std.proofs.Common.{◌≡◌, zero, suc, ◌⊎◌, inl, inr, List, [], ◌∷◌, ◌++◌, ℤ, ◌<ℤ◌, ◌↔◌, ◌∙◌, refl, sym, subst, arith}
+use Rattle.std.proofs.Common.{◌≡◌, ℕ, zero, suc, ◌+◌, ◌<◌, ◌⊎◌, inl, inr, List, [], ◌∷◌, ◌++◌, length, map, ℤ, ◌<ℤ◌, ◌↔◌, ◌∙◌, refl, sym, subst, arith}
 use Rattle.std.specs.Prelude.{Contains}
-use Rattle.std.specs.List.{AllByRecursion}
-use Rattle.std.proofs.lemmas.List.Elements.{Contains-append_right}
+use Rattle.std.specs.List.{AllByRecursion, range_with_len}
+use Rattle.std.proofs.lemmas.List.Elements.{Contains-append_right, Contains-get_or}
+use Rattle.std.proofs.lemmas.List.FromFn.{get_or-range_with_len, length-range_with_len}
 use Rattle.std.proofs.lemmas.Int.{ints}
 use Rattle.due_set.specs.Due.{IsRising}
 
@@ -18,6 +19,18 @@ Contains-cases x xs y (suc k, l, e) = inr (k, omega arith, e)
 
 pub Contains-none : {X : Type 0} (y : X) → Contains [] y → ⊥
 Contains-none y (k, l, e) = absurd (omega arith)
+
+pub Contains-map : {X Y : Type 0} (f : X → Y) (xs : List X) (x : X) → Contains xs x → Contains (map f xs) (f x)
+Contains-map f [] x h = absurd (Contains-none x h)
+Contains-map f (first ∷ xs) x h = elim (Contains-cases first xs x h) [
+  | inl e ↦ subst (λ y. Contains (f first ∷ map f xs) (f y)) e (Contains-head (f first) (map f xs))
+  | inr more ↦ Contains-tail (f first) (map f xs) (f x) (Contains-map f xs x more)
+]
+
+pub Contains-range_with_len : (from count k : ℕ) → k < count → Contains (range_with_len from count) (from + k)
+Contains-range_with_len from count k below =
+    let within : k < length (range_with_len from count) = omega (arith, below, length-range_with_len from count) in
+    subst (Contains (range_with_len from count)) (get_or-range_with_len from count k 0 below) (Contains-get_or (range_with_len from count) k 0 within)
 
 -- an instant after all others may stand at the end
 pub above_all : (x : ℤ) (xs : List ℤ) (y : ℤ) → AllByRecursion (λ later. x <ℤ later) xs → x <ℤ y → AllByRecursion (λ later. x <ℤ later) (xs ++ y ∷ [])

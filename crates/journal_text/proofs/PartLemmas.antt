@@ -1,17 +1,19 @@
 -- The lines of parts, and the turns that they tell.
-use Rattle.std.proofs.Common.{◌≡◌, ◌⊎◌, inl, inr, ◌<◌, ◌≤◌, ◌+◌, ◌-◌, ℕ, zero, suc, List, [], ◌∷◌, ◌++◌, length, map, take, drop, get_or, append-nil, append_assoc, length-append, arith, refl, sym, subst, ap, ◌∙◌, Result, Ok, Err}
+use Rattle.std.proofs.Common.{◌≡◌, inl, inr, ◌<◌, ◌≤◌, ◌+◌, ◌-◌, ℕ, zero, suc, List, [], ◌∷◌, ◌++◌, length, map, take, drop, get_or, append-nil, append_assoc, length-append, add-one, arith, refl, sym, subst, ap, ◌∙◌, Result, Ok, Err}
 use Rattle.std.specs.Prelude.{codes, flat_map, All, IsErrAnd}
 use Rattle.std.specs.List.{enumerate_from, range_with_len}
 use Rattle.std.proofs.Math.ListN.{get_or-map}
+use Rattle.std.proofs.lemmas.Bool.{cases_lt}
 use Rattle.std.proofs.Math.Seq.{drop-append_seam, take-length}
 use Rattle.std.proofs.lemmas.Grind.{flat_map-append}
 use Rattle.std.proofs.lemmas.List.{drop-take, get_or_default, get_or_past, length-map, length-take-le, map-append, take-append-drop, take-take, take_all, take_more}
 use Rattle.std.proofs.lemmas.List.Elements.{All-drop}
-use Rattle.std.proofs.lemmas.List.FromFn.{get_or-enumerate_from, get_or-range_with_len, length-enumerate_from, length-range_with_len}
+use Rattle.std.proofs.lemmas.List.FromFn.{get_or-enumerate_from, length-enumerate_from}
 use Rattle.due_set.specs.Table.{Table}
 use Rattle.history.specs.declared.turn.Turn.{Turn}
 use Rattle.cron_io.specs.Views.{SinkView}
 use Rattle.cron_io.specs.Lines.{text_of_lines}
+use Rattle.cron_io.proofs.ListLemmas.{range_more}
 use Rattle.report_text.specs.Writes.{HasWritten, Writes}
 use Rattle.report_text.specs.declared.fault.ReportFault.{ReportFault}
 use Rattle.report_text.proofs.WritingLemmas.{writes_exit, writes_on}
@@ -65,13 +67,6 @@ text_between first last lines =
     ap (λ (l : List ℕ). (first ++ 10 ∷ []) ++ l)
     (flat_map-append (λ (line : List ℕ). line ++ 10 ∷ []) lines (last ∷ []) ∙ ap (λ (l : List ℕ). text_of_lines lines ++ l) (append-nil (last ++ 10 ∷ [])))
 
--- a place is among the places of all parts
-pub place_in_range : (n i : ℕ) → i < n → (i < length (range_with_len 0 n)) × (i ≡ get_or (range_with_len 0 n) i i)
-place_in_range n i lt =
-    let size = length-range_with_len 0 n in
-    let here = get_or-range_with_len 0 n i i lt in
-    (omega arith, omega arith)
-
 -- a journal is its first line, the lines of its parts, and its last line
 pub journal_is : (table : Table) (turns : List Turn) (starts : List ℕ)
     → (codes "cron journal 1" ++ 10 ∷ [])
@@ -85,18 +80,6 @@ journal_is table turns starts =
     )
 
 -- ---- parts
-
-below_or_past : (i n : ℕ) → (i < n) ⊎ (n ≤ i)
-below_or_past i zero = inr (omega arith)
-below_or_past zero (suc n) = inl (omega arith)
-below_or_past (suc i) (suc n) = elim (below_or_past i n) [ inl lt ↦ inl (omega arith) | inr past ↦ inr (omega arith) ]
-
-range_from : (a n : ℕ) → range_with_len a (suc n) ≡ range_with_len a n ++ (a + n) ∷ []
-range_from a zero = ap (λ k. k ∷ []) (omega arith)
-range_from a (suc n) = ap (λ (l : List ℕ). a ∷ l) (range_from (a + 1) n ∙ ap (λ k. range_with_len (a + 1) n ++ k ∷ []) (omega arith))
-
-range_more : (n : ℕ) → range_with_len 0 (suc n) ≡ range_with_len 0 n ++ n ∷ []
-range_more n = range_from 0 n ∙ ap (λ k. range_with_len 0 n ++ k ∷ []) (omega arith)
 
 enumerate-append : {X : Type 0} (n : ℕ) (xs ys : List X) → enumerate_from n (xs ++ ys) ≡ enumerate_from n xs ++ enumerate_from (n + length xs) ys
 enumerate-append n [] ys = ap (λ k. enumerate_from k ys) (omega arith)
@@ -125,7 +108,7 @@ abbrev begin_of : (turns : ℕ) (starts : List ℕ) → ℕ → ℕ
 begin_of turns starts place = get_or starts place turns
 
 begin_within : (turns : ℕ) (starts : List ℕ) (place : ℕ) → AreStarts turns starts → begin_of turns starts place ≤ turns
-begin_within turns starts place are = elim (below_or_past place (length starts)) [
+begin_within turns starts place are = elim (cases_lt place (length starts)) [
   | inl lt ↦ are.within place turns lt
   | inr past ↦ (let is = get_or_past starts place turns past in omega arith)
 ]
@@ -135,7 +118,7 @@ pub ends_behind : (turns : ℕ) (starts : List ℕ) (place : ℕ) → AreStarts 
     → get_or starts place 0 ≤ end_of starts turns place
 ends_behind turns starts place are within =
     let here : get_or starts place turns ≡ get_or starts place 0 = get_or_default starts place turns 0 within in
-    elim (below_or_past (suc place) (length starts)) [
+    elim (cases_lt (suc place) (length starts)) [
       | inl lt ↦ (let rise = are.rise place (suc place) turns (omega arith) lt in omega arith)
       | inr past ↦ (
           let last = get_or_past starts (suc place) turns past in
@@ -158,7 +141,7 @@ first_parts turns starts (suc n) are le =
     let front = first_parts turns starts n are (omega arith) in
     let here : get_or starts n (length turns) ≡ get_or starts n 0 = get_or_default starts n (length turns) 0 within in
     let one : flat_map (part_turns turns starts) (n ∷ []) ≡ part_turns turns starts n = append-nil (part_turns turns starts n) in
-    ap (flat_map (part_turns turns starts)) (range_more n)
+    ap (flat_map (part_turns turns starts)) (ap (range_with_len 0) (sym (add-one n)) ∙ range_more 0 n n (omega arith))
     ∙ flat_map-append (part_turns turns starts) (range_with_len 0 n) (n ∷ [])
     ∙ ap (λ (l : List (ℕ × Turn)). l ++ flat_map (part_turns turns starts) (n ∷ [])) front
     ∙ ap (λ (l : List (ℕ × Turn)). enumerate_from 0 (take (begin_of (length turns) starts n) turns) ++ l) one

@@ -1,10 +1,9 @@
 -- What the words of a turn say of it.
-use Rattle.std.proofs.Common.{◌≡◌, ◌≢◌, ℕ, ◌<◌, ◌^◌, Bool, true, false, List, [], ◌∷◌, ◌++◌, get_or, Option, None, Some, refl, ap, sym, ◌∙◌, arith, codes, decimal, ℤ}
+use Rattle.std.proofs.Common.{◌≡◌, ◌≢◌, ℕ, ◌<◌, ◌^◌, Bool, true, false, List, [], ◌∷◌, ◌++◌, get_or, Option, None, Some, refl, ap, sym, ◌∙◌, arith, codes, decimal}
 use Rattle.std.specs.Prelude.{⊤, IfSome}
 use Rattle.std.proofs.lemmas.List.{append_cancel_left}
 use Rattle.std.proofs.lemmas.Fmt.{decimal_injective}
 use Rattle.zone_minutes.specs.Stamp.{stamp_text}
-use Rattle.zone_minutes.specs.declared.minute.Minute.{Minute}
 use Rattle.zone_minutes.proofs.StampLemmas.{stamp_text-injective}
 use Rattle.cluster_sched.specs.declared.fate.Fate.{Fate}
 use Rattle.cluster_sched.specs.declared.fate.Fate.TheVariants.{Done, LostBefore, LostAfter, Late}
@@ -16,6 +15,7 @@ use Rattle.script_text.proofs.CutLemmas.{Lacks}
 use Rattle.script_text.proofs.OperandLemmas.{decimal_no_space, stamp_no_space}
 use Rattle.journal_text.specs.Journal.{answer_words, call_words, cause_words, kept_word, stop_words, word_of_fate}
 use Rattle.journal_text.specs.Told.{HasStamp, IsNumbered}
+use Rattle.script_text.proofs.UniqueLemmas.{same_minute}
 
 -- the byte at a place
 abbrev byte_at : ℕ → List ℕ → ℕ
@@ -50,12 +50,6 @@ same_number : (a b : ℕ) (x y : List ℕ) → a < 2 ^ 64 → b < 2 ^ 64 → IsT
 same_number a b x y small low tx ty e =
     let cut = word_cut (decimal a) (decimal b) x y (decimal_no_space a small) (decimal_no_space b low) tx ty e in
     (decimal_injective a b small low cut.0, cut.1)
-
-same_minute : (a b : Minute) → a.0 ≡ b.0 → a ≡ b
-same_minute a b is =
-    let minute : ℤ → Minute = λ at. record { 0 = at } in
-    let same : minute a.0 ≡ minute b.0 = ap minute is in
-    same
 
 -- ---- causes
 

@@ -27,6 +27,16 @@ find_none p (x ∷ xs) all =
     let here : p x ≡ false = All-head (λ y. p y ≡ false) x xs all in
     rw here (find_none p xs (All-tail (λ y. p y ≡ false) x xs all))
 
+-- where each vote is below a slot
+pub below-votes_below : (slot : ℕ) (votes : List Vote) → All (λ vote. vote.slot < slot) votes → votes_below slot votes ≡ votes
+unfolding votes_below
+below-votes_below slot votes below = filter_all _ votes (All-weaker _ _ (λ (vote : Vote) h. lt-ltb vote.slot slot h) votes below)
+
+pub below-votes_from : (slot : ℕ) (votes : List Vote) → All (λ vote. vote.slot < slot) votes → votes_from (slot + 1) votes ≡ []
+unfolding votes_from
+below-votes_from slot votes below =
+    filter_none _ votes (All-weaker _ _ (λ (vote : Vote) (h : vote.slot < slot). lt-leb (slot + 1) vote.slot (omega (arith, h))) votes below)
+
 -- the votes before a place are below a slot, and the others are not
 pub record Parts (slot place : ℕ) (votes : List Vote) : Type 0 where
   pub within : place ≤ length votes

@@ -1,5 +1,5 @@
 -- Going over what is sent, and over the replicas that it goes to.
-use Rattle.std.proofs.Common.{◌≡◌, ◌≢◌, ℕ, zero, suc, ◌+◌, ◌<◌, ◌≤◌, ◌^◌, true, false, List, [], ◌∷◌, ◌++◌, length, map, take, get_or, refl, sym, ◌∙◌, ap, inl, inr, subst, arith, if◌then◌else◌, add-one, append-nil}
+use Rattle.std.proofs.Common.{◌≡◌, ◌≢◌, ℕ, zero, suc, ◌+◌, ◌<◌, ◌≤◌, ◌^◌, true, false, List, [], ◌∷◌, ◌++◌, length, map, take, get_or, refl, sym, ◌∙◌, ap, inl, inr, subst, arith, if◌then◌else◌, append-nil}
 use Rattle.std.specs.Prelude.{⊤, IsTrue}
 use Rattle.std.specs.List.{AllByRecursion, AllZip, flat_map, range_with_len}
 use Rattle.std.proofs.lemmas.Bool.{cases_Bool}
@@ -23,6 +23,7 @@ use Rattle.replica_draft.specs.declared.draft.Sent.{Sent}
 use Rattle.replica_draft.specs.Letters.{packets_to, AllKeep, Carry, KeepGroups, HasCursor, HaveCursors, IsInPackets, AreSpoken}
 use Rattle.replica_draft.proofs.GroupLemmas.{told_to}
 use Rattle.replica_draft.proofs.LetterLemmas.{packets_to-said_of}
+use Rattle.cron_io.proofs.ListLemmas.{all_push, range_more}
 
 -- ---- the packets to one replica
 
@@ -34,10 +35,6 @@ pub record Putting (me : ℕ) (packets : List Packet) (before bytes : List ℕ) 
 
 pub Putting-none : (me : ℕ) (before : List ℕ) → Putting me [] before before
 Putting-none me before = record { spelled = sym (append-nil before); fits = tt; keep = record { kinds = tt; members_keep = tt } }
-
-all-push : {X : Type 0} (P : X → Type 0) (xs : List X) (x : X) → AllByRecursion P xs → P x → AllByRecursion P (xs ++ x ∷ [])
-all-push P [] x all here = (here, tt)
-all-push P (y ∷ ys) x all here = (all.0, all-push P ys x all.1 here)
 
 to_push : (me member : ℕ) (said : List (Whom × Packet)) (whom : Whom) (packet : Packet) → packets_to me member (said ++ (whom, packet) ∷ []) ≡ packets_to me member said ++ (if goes_to me whom member then packet ∷ [] else [])
 to_push me member [] whom packet = elim (cases_Bool (goes_to me whom member)) [ inl goes ↦ rw goes refl | inr other ↦ rw other refl ]
@@ -89,10 +86,10 @@ Putting-next me member sends at sent before now new below is goes keep fit put p
     subst (λ (packets : List Packet). Putting me packets before new) (sym more)
     (record {
       spelled = put ∙ ap (λ (bytes : List ℕ). bytes ++ packet_bytes me sent.packet) putting.spelled ∙ flat_map_more (packet_bytes me) before there sent.packet;
-      fits = all-push (λ packet. FitPacketFields (fields_of me packet)) there sent.packet putting.fits fit;
+      fits = all_push (λ packet. FitPacketFields (fields_of me packet)) there sent.packet putting.fits fit;
       keep = record {
-        kinds = all-push (λ packet. IsTrue (keeps_kind (fields_of me packet))) there sent.packet putting.keep.kinds keep.kinds.0;
-        members_keep = all-push (λ packet. IsTrue (keeps_members 7 me (fields_of me packet))) there sent.packet putting.keep.members_keep keep.members_keep.0;
+        kinds = all_push (λ packet. IsTrue (keeps_kind (fields_of me packet))) there sent.packet putting.keep.kinds keep.kinds.0;
+        members_keep = all_push (λ packet. IsTrue (keeps_members 7 me (fields_of me packet))) there sent.packet putting.keep.members_keep keep.members_keep.0;
       };
     })
 
@@ -153,19 +150,13 @@ Spells-to me member said bytes putting groups some =
       spelled = putting.spelled;
     }
 
-range_more : (from count : ℕ) → range_with_len from (suc count) ≡ range_with_len from count ++ (from + count) ∷ []
-range_more from zero = ap (λ (n : ℕ). n ∷ []) (omega arith)
-range_more from (suc count) =
-    ap (λ (rest : List ℕ). from ∷ rest) (range_more (from + 1) count ∙ ap (λ (n : ℕ). range_with_len (from + 1) count ++ n ∷ []) (omega arith))
-
 letter_for : (me : ℕ) (acts : List Act) (member : ℕ) → List Addressed
 letter_for me acts member = letter_of member (sent_to me member acts)
 
 letters_more : (me member : ℕ) (acts : List Act) → letters_of (record { me = me; members = member + 1 }) acts ≡ letters_of (record { me = me; members = member }) acts ++ letter_of member (sent_to me member acts)
 unfolding letter_for
 letters_more me member acts =
-    let last : range_with_len 0 (member + 1) ≡ range_with_len 0 member ++ member ∷ [] =
-    ap (range_with_len 0) (add-one member) ∙ range_more 0 member ∙ ap (λ (n : ℕ). range_with_len 0 member ++ n ∷ []) (omega arith) in
+    let last : range_with_len 0 (member + 1) ≡ range_with_len 0 member ++ member ∷ [] = range_more 0 member member (omega arith) in
     ap (flat_map (letter_for me acts)) last
     ∙ flat_map-append (letter_for me acts) (range_with_len 0 member) (member ∷ [])
     ∙ ap (λ (letters : List Addressed). flat_map (letter_for me acts) (range_with_len 0 member) ++ letters) (append-nil (letter_for me acts member))

@@ -1,13 +1,13 @@
 -- The rows and the round of what records stand for.
-use Rattle.std.proofs.Common.{◌≡◌, inl, inr, ℕ, ◌+◌, ◌<◌, ◌^◌, zero, suc, Option, None, Some, List, [], ◌∷◌, length, map, refl, sym, ap, subst, arith}
+use Rattle.std.proofs.Common.{◌≡◌, inl, inr, ℕ, ◌<◌, ◌^◌, Option, None, Some, List, [], ◌∷◌, sym, subst, arith}
 use Rattle.std.specs.Prelude.{IfSome}
-use Rattle.std.specs.List.{filter_map, last_or, range_with_len, slice_get}
+use Rattle.std.specs.List.{filter_map, last_or}
 use Rattle.paxos_base.specs.declared.durable.Delta.{Delta}
 use Rattle.paxos_base.specs.declared.durable.Delta.TheVariants.{Tried, Promised, Voted, Base}
 use Rattle.paxos_base.specs.declared.durable.Durable.{Durable}
-use Rattle.paxos_base.specs.declared.rows.JobRow.{JobRow}
 use Rattle.paxos_base.specs.Durable.{after_delta}
-use Rattle.paxos_base.specs.Rows.{RowsStand, fresh_row}
+use Rattle.paxos_base.specs.Rows.{RowsStand}
+use Rattle.paxos_base.proofs.RowLemmas.{RowsStand-fresh_rows}
 use Rattle.store_format.specs.declared.body.Record.{Record}
 use Rattle.store_format.specs.declared.body.Record.TheVariants.{Tried as TriedRecord, Promised as PromisedRecord, Voted as VotedRecord, Base as BaseRecord, Row as RowRecord}
 use Rattle.store_format.specs.Area.{Stands, StandFor, fresh_kept, after_copy}
@@ -29,23 +29,8 @@ rows_log jobs kept last (item ∷ items) log stand =
     let parts = IsChangeLog-uncons jobs kept last item items log in
     rows_log jobs (after_delta parts.change kept) last items parts.rest (rows_change jobs kept parts.change stand parts.may_follow)
 
-fresh_count : (from count : ℕ) → length (map fresh_row (range_with_len from count)) ≡ count
-fresh_count from zero = refl
-fresh_count from (suc count) = ap (λ n. suc n) (fresh_count (from + 1) count)
-
-same_job : (one other : JobRow) → ◌≡◌ {A = Option JobRow} (Some one) (Some other) → other.job ≡ one.job
-same_job one other is = let same : one ≡ other = cc is in ap (λ (row : JobRow). row.job) (sym same)
-
-fresh_order : (from count k : ℕ) (row : JobRow) → slice_get (map fresh_row (range_with_len from count)) k ≡ Some row → row.job ≡ from + k
-fresh_order from zero k row is = absurd (cc is)
-fresh_order from (suc count) zero row is = let e : row.job ≡ from = same_job (fresh_row from) row is in omega (arith, e)
-fresh_order from (suc count) (suc k) row is = let e : row.job ≡ from + 1 + k = fresh_order (from + 1) count k row is in omega (arith, e)
-
-fresh_stand : (jobs : ℕ) → RowsStand (fresh_kept jobs).rows jobs
-fresh_stand jobs = record { count = fresh_count 0 jobs; in_order = λ k row is. let e : row.job ≡ 0 + k = fresh_order 0 jobs k row is in omega (arith, e) }
-
 pub rows_stand : (jobs : ℕ) (items : List Record) (kept : Durable) → Stands jobs items kept → RowsStand kept.rows jobs
-rows_stand jobs items kept (inl log) = rows_log jobs (fresh_kept jobs) kept items log (fresh_stand jobs)
+rows_stand jobs items kept (inl log) = rows_log jobs (fresh_kept jobs) kept items log (RowsStand-fresh_rows jobs)
 rows_stand jobs items kept (inr base) = rows_log jobs (after_copy base.slot base.rows base.copy base.promised) kept base.log base.is_log base.rows_stand
 
 pub rows_found : (jobs : ℕ) (bodies : List (List ℕ)) (kept : Durable) (own : Option ℕ) → StandFor jobs bodies kept own → RowsStand kept.rows jobs

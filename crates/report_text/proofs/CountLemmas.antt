@@ -114,8 +114,8 @@ line_of_counts table held job counts d below known =
     ap (λ (l : List Counts). get_or l job d) known ∙ get_or-map-range_with_len (counts_of_job held) 0 (length table.jobs) job job d below (omega arith) in
     ap (λ (c : Counts). job_line (job_name table job) c.launched c.voided) is
 
--- a place in the range of jobs, and the job there
-pub job_in_range : (jobs job : ℕ) → job < jobs → (job < length (range_with_len 0 jobs)) × (job ≡ get_or (range_with_len 0 jobs) job job)
-job_in_range jobs job below =
-    let size = length-range_with_len 0 jobs in
-    (omega arith, sym (get_or-range_with_len 0 jobs job job below ∙ omega arith))
+-- a place in a range, and the number there
+pub place_in_range : (count place : ℕ) → place < count → (place < length (range_with_len 0 count)) × (place ≡ get_or (range_with_len 0 count) place place)
+place_in_range count place below =
+    let size = length-range_with_len 0 count in
+    (omega arith, sym (get_or-range_with_len 0 count place place below ∙ omega arith))

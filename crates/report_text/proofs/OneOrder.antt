@@ -1,10 +1,9 @@
 -- Rows of distinct names have one order.
-use Rattle.std.proofs.Common.{◌≡◌, ◌≢◌, inl, inr, ℕ, suc, ◌<◌, Bool, ◌&&◌, ◌==◌, List, [], ◌∷◌, length, map, refl, sym, ap, ◌∙◌, subst, arith, ℤ, pos, Decides}
+use Rattle.std.proofs.Common.{◌≡◌, ◌≢◌, inl, inr, ℕ, suc, ◌<◌, List, [], ◌∷◌, length, map, refl, sym, ap, ◌∙◌, subst, arith, pos}
 use Rattle.std.specs.Prelude.{All, AllPairs, Contains}
 use Rattle.std.specs.List.Sorted.{IsPermutation}
-use Rattle.std.specs.Ordering.{int_eq}
 use Rattle.std.proofs.Math.ListN.{get_or-map}
-use Rattle.std.proofs.lemmas.Bool.Decides.{Decides-and, Decides-eqb, Decides-int_eq, Decides-like, same_from_decides}
+use Rattle.std.proofs.lemmas.Bool.Decides.{Decides-like, same_from_decides}
 use Rattle.std.proofs.lemmas.Int.{ints}
 use Rattle.std.proofs.lemmas.List.{length-map}
 use Rattle.std.proofs.lemmas.List.Elements.{All-contains}
@@ -21,6 +20,8 @@ use Rattle.cron_io.specs.Lines.{text_of_lines}
 use Rattle.report_text.specs.Report.{IsInOrder, IsNotAfter, IsReport, report_lines}
 use Rattle.report_text.proofs.OrderLemmas.{AreInOrder, first_of_order, rest_of_order}
 use Rattle.launch_safety.proofs.FitLemmas.{name_is as same_name}
+use Rattle.cluster_sched.proofs.HeldLemmas.{once_behind}
+use Rattle.cluster_sched.proofs.LedgerLemmas.{name_eq, Decides-name_eq}
 
 -- two names of which neither is after the other are one
 IsNotAfter-both : (a b : Name) → IsNotAfter a b → IsNotAfter b a → a ≡ b
@@ -29,17 +30,8 @@ IsNotAfter-both a b (inl x) (inr y) = absurd (let e = y.0 in omega arith)
 IsNotAfter-both a b (inr x) (inl y) = absurd (let e = x.0 in omega arith)
 IsNotAfter-both a b (inr x) (inr y) = let f = x.1 in let g = y.1 in same_name a b x.0 (omega (arith, ints))
 
-name_eq : Name → Name → Bool
-name_eq a b = (a.job == b.job) && int_eq a.at b.at
-
-name_eq-decides : (a b : Name) → Decides (name_eq a b) (a ≡ b)
-unfolding name_eq
-name_eq-decides a b =
-    Decides-like ((a.job == b.job) && int_eq a.at b.at) (λ both. same_name a b both.0 both.1) (λ e. (ap (λ (n : Name). n.job) e, ap (λ (n : Name). n.at) e))
-    (Decides-and (a.job == b.job) (int_eq a.at b.at) (Decides-eqb a.job b.job) (Decides-int_eq a.at b.at))
-
 name_eq-flips : (a b : Name) → name_eq a b ≡ name_eq b a
-name_eq-flips a b = same_from_decides (name_eq a b) (name_eq b a) (name_eq-decides a b) (Decides-like (name_eq b a) (λ e. sym e) (λ e. sym e) (name_eq-decides b a))
+name_eq-flips a b = same_from_decides (name_eq a b) (name_eq b a) (Decides-name_eq a b) (Decides-like (name_eq b a) (λ e. sym e) (λ e. sym e) (Decides-name_eq b a))
 
 abbrev name_of : SchedRow → Name
 name_of row = row.name
@@ -59,15 +51,12 @@ rows_differ rows once i j d before within same =
 
 pub AreNamedOnce-permutation : (held rows : List SchedRow) → IsPermutation held rows → AreNamedOnce held → AreNamedOnce rows
 AreNamedOnce-permutation held rows moved once =
-    rows_differ rows (AllPairs-from_IsDistinct name_eq-decides (map name_of rows)
+    rows_differ rows (AllPairs-from_IsDistinct Decides-name_eq (map name_of rows)
     (IsDistinct-IsPermutation name_eq name_eq-flips (map name_of held) (map name_of rows) (IsPermutation-map name_of held rows moved)
-    (IsDistinct-from_AllPairs name_eq-decides (map name_of held) (names_differ held once))))
+    (IsDistinct-from_AllPairs Decides-name_eq (map name_of held) (names_differ held once))))
 
 first_is_named_once : (row : SchedRow) (rows : List SchedRow) → AreNamedOnce (row ∷ rows) → All (λ other. row.name ≢ other.name) rows
 first_is_named_once row rows once k d within = once 0 (suc k) d (omega arith) (omega arith)
-
-rest_is_named_once : (row : SchedRow) (rows : List SchedRow) → AreNamedOnce (row ∷ rows) → AreNamedOnce rows
-rest_is_named_once row rows once i j d before within = once (suc i) (suc j) d (omega arith) (omega arith)
 
 same_first : (x y : SchedRow) (xs ys : List SchedRow) → AreInOrder (x ∷ xs) → AreInOrder (y ∷ ys) → AreNamedOnce (y ∷ ys)
     → Contains (y ∷ ys) x → Contains (x ∷ xs) y → x ≡ y
@@ -99,7 +88,7 @@ same_rows [] (y ∷ ys) a b once once' there back = absurd (Contains-none y (bac
 same_rows (x ∷ xs) [] a b once once' there back = absurd (Contains-none x (there x (Contains-head x xs)))
 same_rows (x ∷ xs) (y ∷ ys) a b once once' there back =
     let e : x ≡ y = same_first x y xs ys a b once' (there x (Contains-head x xs)) (back y (Contains-head y ys)) in
-    let tails : xs ≡ ys = same_rows xs ys (rest_of_order x xs a) (rest_of_order y ys b) (rest_is_named_once x xs once) (rest_is_named_once y ys once')
+    let tails : xs ≡ ys = same_rows xs ys (rest_of_order x xs a) (rest_of_order y ys b) (once_behind x xs once) (once_behind y ys once')
     (same_tail x y xs ys e once there) (same_tail y x ys xs (sym e) once' back) in
     cc
 

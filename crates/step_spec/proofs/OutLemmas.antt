@@ -17,7 +17,7 @@ use Rattle.step_spec.specs.Message.{Message, Whom, Only, Others, Outside, goes_t
 use Rattle.step_spec.specs.State.{State, Identity, prefix_of}
 use Rattle.step_spec.specs.declared.out.LearntRow.{LearntRow}
 use Rattle.step_spec.proofs.Lists.{flat_came, nothing_in}
-use Rattle.due_set.proofs.Rising.{Contains-head as in_first, Contains-tail as in_rest, Contains-cases as cons_cases}
+use Rattle.due_set.proofs.Rising.{Contains-head as in_first, Contains-cases as cons_cases, Contains-range_with_len}
 
 -- what an element's list has is in the lists of all
 pub flat_has : {A B : Type 0} (f : A → List B) (xs : List A) (x : A) (y : B) → Contains xs x → Contains (f x) y → Contains (flat_map f xs) y
@@ -51,14 +51,6 @@ reaches_outside me set member = (
 
 -- ---- letters
 
-in_range : (from count k : ℕ) → k < count → Contains (range_with_len from count) (from + k)
-in_range from zero k within = absurd (omega (arith, within))
-in_range from (suc count) zero within =
-    let at : from + 0 ≡ from = omega arith in rw at (in_first from (range_with_len (from + 1) count))
-in_range from (suc count) (suc k) within =
-    let at : from + suc k ≡ from + 1 + k = omega arith in
-    rw at (in_rest from (range_with_len (from + 1) count) (from + 1 + k) (in_range (from + 1) count k (omega (arith, within))))
-
 range_below : (from count n : ℕ) → Contains (range_with_len from count) n → n < from + count
 range_below from zero n has = nothing_in has
 range_below from (suc count) n has = elim (cons_cases from (range_with_len (from + 1) count) n has) [
@@ -77,7 +69,7 @@ unfolding sent_by
 letters_reach self acts whom message member here below goes =
     let has : Contains (sent_to self.me member acts) message = flat_has (sent_by self.me member) acts (Send whom message) message here (rw goes (in_first message [])) in (
       record { to = member; messages = sent_to self.me member acts },
-      flat_has (λ one. letter_of one (sent_to self.me one acts)) (range_with_len 0 self.members) member _ (let at : 0 + member ≡ member = omega arith in rw at at (in_range 0 self.members member below)) (letter_is member _ message has),
+      flat_has (λ one. letter_of one (sent_to self.me one acts)) (range_with_len 0 self.members) member _ (let at : 0 + member ≡ member = omega arith in rw at at (Contains-range_with_len 0 self.members member below)) (letter_is member _ message has),
       refl,
       has,
     )

@@ -2,15 +2,16 @@
 use Rattle.std.proofs.Common.{◌≡◌, ℕ, ◌+◌, ◌<◌, ◌≤◌, Bool, true, false, ◌&&◌, ltb, leb, max, Option, Some, None, List, [], ◌∷◌, ◌++◌, length, map, refl, sym, ap, ◌∙◌, subst, inl, inr, arith, append_assoc}
 use Rattle.std.specs.Prelude.{unwrap_or, All, Contains, if◌then◌else◌}
 use Rattle.std.specs.List.{filter, filter_map}
-use Rattle.std.proofs.lemmas.Bool.{and_parts, leb-true, ltb-true, eq-eqb, eqb-true, cases_Bool, cases_lt, lt-ltb, lt-leb}
+use Rattle.std.proofs.lemmas.Bool.{and_parts, leb-true, ltb-true, eq-eqb, eqb-true, cases_Bool, cases_lt}
 use Rattle.std.proofs.lemmas.List.{map-append}
-use Rattle.std.proofs.lemmas.List.Elements.{All-nil, All-cons, All-head, All-tail, All-push, All-weaker, All-contains, Contains-append_left, Contains-push, filter_map-append}
+use Rattle.std.proofs.lemmas.List.Elements.{All-nil, All-cons, All-push, All-weaker, All-contains, Contains-append_left, Contains-push, filter_map-append}
 use Rattle.std.proofs.lemmas.List.Quantifiers.{all_pairs_push}
 use Rattle.std.proofs.lemmas.Option.{none-some, same_Some}
 use Rattle.paxos_base.specs.declared.entry.Vote.{Vote}
 use Rattle.paxos_base.specs.declared.rows.JobRow.{JobRow}
 use Rattle.paxos_base.specs.Vote.{SlotsRise, votes_below, votes_from, put_vote}
 use Rattle.paxos_base.specs.Ballot.{IsAbove}
+use Rattle.paxos_base.proofs.PlaceLemmas.{below-votes_below, below-votes_from}
 use Rattle.store_format.specs.declared.body.Record.{Record}
 use Rattle.store_format.specs.declared.body.Record.TheVariants.{Tried, Promised, Voted, Base, Row}
 use Rattle.store_format.specs.declared.place.Place.{Place}
@@ -74,18 +75,6 @@ passes_all p (x ∷ xs) same = elim (cases_Bool (p x)) [
       let e = rw out at same in absurd (omega (arith, e, filter_short p xs))
 ]
 
-all_pass : {X : Type 0} (p : X → Bool) (xs : List X) → All (λ (x : X). p x ≡ true) xs → filter p xs ≡ xs
-all_pass p [] all = refl
-all_pass p (x ∷ xs) all =
-    let here : p x ≡ true = All-head (λ y. p y ≡ true) x xs all in
-    rw here (ap (λ rest. x ∷ rest) (all_pass p xs (All-tail (λ y. p y ≡ true) x xs all)))
-
-none_pass : {X : Type 0} (p : X → Bool) (xs : List X) → All (λ (x : X). p x ≡ false) xs → filter p xs ≡ []
-none_pass p [] all = refl
-none_pass p (x ∷ xs) all =
-    let here : p x ≡ false = All-head (λ y. p y ≡ false) x xs all in
-    rw here (none_pass p xs (All-tail (λ y. p y ≡ false) x xs all))
-
 -- each vote is below the slot
 abbrev pub AllBelow : ℕ → List Vote → Type 0
 AllBelow slot votes = All (λ (vote : Vote). vote.slot < slot) votes
@@ -96,25 +85,15 @@ is_behind-below slot votes behind =
     All-weaker _ _ (λ (vote : Vote) h. ltb-true vote.slot slot h) votes
     (passes_all (λ (vote : Vote). ltb vote.slot slot) votes (eqb-true _ _ behind))
 
-below_pass : (slot : ℕ) (votes : List Vote) → AllBelow slot votes → votes_below slot votes ≡ votes
-unfolding votes_below
-below_pass slot votes below =
-    all_pass (λ (vote : Vote). ltb vote.slot slot) votes (All-weaker _ _ (λ (vote : Vote) h. lt-ltb vote.slot slot h) votes below)
-
 pub below-is_behind : (slot : ℕ) (votes : List Vote) → AllBelow slot votes → is_behind slot votes ≡ true
-below-is_behind slot votes below = eq-eqb _ _ (ap length (below_pass slot votes below))
-
-from_none : (slot : ℕ) (votes : List Vote) → AllBelow slot votes → votes_from (slot + 1) votes ≡ []
-unfolding votes_from
-from_none slot votes below =
-    none_pass (λ (vote : Vote). leb (slot + 1) vote.slot) votes (All-weaker (λ (vote : Vote). vote.slot < slot) (λ (vote : Vote). leb (slot + 1) vote.slot ≡ false) (λ vote h. lt-leb (slot + 1) vote.slot (omega (arith, h))) votes below)
+below-is_behind slot votes below = eq-eqb _ _ (ap length (below-votes_below slot votes below))
 
 -- a vote behind all others goes last
 pub put_last : (vote : Vote) (votes : List Vote) → AllBelow vote.slot votes → put_vote vote votes ≡ votes ++ vote ∷ []
 unfolding put_vote
 put_last vote votes below =
-    ap (λ (low : List Vote). low ++ vote ∷ votes_from (vote.slot + 1) votes) (below_pass vote.slot votes below)
-    ∙ ap (λ (high : List Vote). votes ++ vote ∷ high) (from_none vote.slot votes below)
+    ap (λ (low : List Vote). low ++ vote ∷ votes_from (vote.slot + 1) votes) (below-votes_below vote.slot votes below)
+    ∙ ap (λ (high : List Vote). votes ++ vote ∷ high) (below-votes_from vote.slot votes below)
 
 pub SlotsRise-push : (vote : Vote) (votes : List Vote) → SlotsRise votes → AllBelow vote.slot votes → SlotsRise (votes ++ vote ∷ [])
 SlotsRise-push vote votes rise below = all_pairs_push (λ (earlier later : Vote). earlier.slot < later.slot) votes vote rise below

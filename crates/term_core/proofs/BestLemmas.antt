@@ -1,17 +1,17 @@
 -- Votes merged by slot: what one more vote makes of the best ones.
 use Rattle.std.proofs.Common.{◌≡◌, ◌≢◌, ℕ, suc, ◌+◌, ◌-◌, ◌<◌, ◌≤◌, Some, None, List, [], ◌∷◌, ◌++◌, Bool, true, false, eqb, ltb, leb, length, get_or, take, drop, refl, sym, ap, ◌∙◌, append_assoc, inl, inr, arith, length-append, if◌then◌else◌}
 use Rattle.std.specs.Option.{option_or}
-use Rattle.std.specs.List.{All, filter, find, prefix_len, take_while}
-use Rattle.std.proofs.lemmas.Bool.{cases_Bool, ltb-true, ltb-false, le-ltb, lt-leb, le-leb, lt-ltb, ne_eqb, eq-eqb, cases_lt}
+use Rattle.std.specs.List.{All, prefix_len, take_while}
+use Rattle.std.proofs.lemmas.Bool.{cases_Bool, ltb-true, ltb-false, le-ltb, lt-leb, le-leb, ne_eqb, eq-eqb, cases_lt}
 use Rattle.std.proofs.lemmas.List.{get_or_append_left, get_or-take, get_or-drop, length-take, length-drop}
-use Rattle.std.proofs.lemmas.List.Elements.{All-nil, All-cons, All-head, All-tail, All-append, All-from_get_or, All-weaker, filter-append}
+use Rattle.std.proofs.lemmas.List.Elements.{All-nil, All-cons, All-append, All-from_get_or, All-weaker, filter-append}
 use Rattle.std.proofs.lemmas.List.Folds.{find-append, length-prefix_len}
 use Rattle.std.proofs.lemmas.List.Sums.{prefix_len_passes, prefix_len_stops}
 use Rattle.paxos_base.specs.declared.entry.Vote.{Vote}
 use Rattle.paxos_base.specs.Vote.{SlotsRise, vote_at, votes_below, votes_from, put_vote}
 use Rattle.paxos_base.proofs.PutLemmas.{SlotsRise-put_vote}
 use Rattle.term_core.specs.Best.{best_of, is_higher, with_vote}
-use Rattle.paxos_base.proofs.PlaceLemmas.{filter_all, filter_none, find_none}
+use Rattle.paxos_base.proofs.PlaceLemmas.{filter_all, filter_none, find_none, below-votes_below, below-votes_from}
 
 -- each vote is at a slot before this one
 abbrev pub AllBelow : ℕ → List Vote → Type 0
@@ -20,15 +20,6 @@ AllBelow slot votes = All (λ vote. vote.slot < slot) votes
 -- each vote is at a later slot
 abbrev pub AllAbove : ℕ → List Vote → Type 0
 AllAbove slot votes = All (λ vote. slot < vote.slot) votes
-
-below-votes_below : (slot : ℕ) (votes : List Vote) → AllBelow slot votes → votes_below slot votes ≡ votes
-unfolding votes_below
-below-votes_below slot votes below = filter_all _ votes (All-weaker _ _ (λ (vote : Vote) h. lt-ltb vote.slot slot h) votes below)
-
-below-votes_from : (slot : ℕ) (votes : List Vote) → AllBelow slot votes → votes_from (slot + 1) votes ≡ []
-unfolding votes_from
-below-votes_from slot votes below =
-    filter_none _ votes (All-weaker _ _ (λ (vote : Vote) (h : vote.slot < slot). lt-leb (slot + 1) vote.slot (omega (arith, h))) votes below)
 
 below-vote_at : (slot : ℕ) (votes : List Vote) → AllBelow slot votes → vote_at slot votes ≡ None
 unfolding vote_at

@@ -7,7 +7,7 @@ use Rattle.cron_io.specs.Lines.{text_of_lines}
 use Rattle.report_text.specs.Writes.{HasWritten}
 use Rattle.report_text.proofs.WritingLemmas.{writes_more, writes_some}
 use Rattle.journal_text.specs.Journal.{part_lines}
-use Rattle.journal_text.proofs.PartLemmas.{place_in_range}
+use Rattle.report_text.proofs.CountLemmas.{place_in_range}
 use Rattle.journal_text.proofs.journal.write_parts.Goals as goal
 
 pub returns-in_err-write_part : goal.returns-in_err-write_part
