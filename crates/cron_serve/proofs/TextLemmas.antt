@@ -5,7 +5,7 @@ use Rattle.std.specs.Str.{IsUtf8, IsAscii}
 use Rattle.std.proofs.lemmas.List.{append-nil, take_rest}
 use Rattle.std.proofs.Math.Seq.{drop-append_seam, take-append_seam}
 use Rattle.std.proofs.lemmas.Str.{IsUtf8-nil, IsUtf8-append, IsUtf8-take, IsUtf8-drop, IsUtf8-from_ascii, IsCharBoundary-before_ascii, IsCharBoundary-after_ascii}
-use Rattle.launch_machine.proofs.MachineLemmas.{same_or_not}
+use Rattle.std.proofs.lemmas.Bool.{cases_eq}
 use Rattle.run_text.specs.declared.refusal.Refusal.{Refusal}
 use Rattle.crontab_text.specs.Blanks.{IsFirstIndex, LacksAny}
 use Rattle.crontab_text.specs.Lines.{lines_of}
@@ -88,7 +88,7 @@ of_last_line (c ∷ cs) lacks texts = (subst AreTexts (lines_of-last c cs lacks)
 lines_are : (bytes front : List ℕ) → Lacks 10 front → IsText (front ++ bytes) → AreTexts (lines_of (front ++ bytes))
 lines_are [] front lacks text =
     subst (λ b. AreTexts (lines_of b)) (sym (append-nil front)) (last_line front lacks (subst IsText (append-nil front) text))
-lines_are (c ∷ cs) front lacks text = elim (same_or_not c 10) as (λ _. AreTexts (lines_of (front ++ c ∷ cs))) [
+lines_are (c ∷ cs) front lacks text = elim (cases_eq c 10) as (λ _. AreTexts (lines_of (front ++ c ∷ cs))) [
   | inl is ↦
       (let whole : IsText (front ++ 10 ∷ cs) = subst (λ x. IsText (front ++ x ∷ cs)) is text in
       let rest : IsText cs = record { utf8 = behind_newline front cs whole.utf8; no_zero = (all_back NotZero front (10 ∷ cs) whole.no_zero).1 } in
@@ -104,7 +104,7 @@ lines_are (c ∷ cs) front lacks text = elim (same_or_not c 10) as (λ _. AreTex
 lines_make : (bytes front : List ℕ) → Lacks 10 front → AreTexts (lines_of (front ++ bytes)) → IsText (front ++ bytes)
 lines_make [] front lacks texts =
     subst IsText (sym (append-nil front)) (of_last_line front lacks (subst (λ b. AreTexts (lines_of b)) (append-nil front) texts))
-lines_make (c ∷ cs) front lacks texts = elim (same_or_not c 10) as (λ _. IsText (front ++ c ∷ cs)) [
+lines_make (c ∷ cs) front lacks texts = elim (cases_eq c 10) as (λ _. IsText (front ++ c ∷ cs)) [
   | inl is ↦
       (let cut : AreTexts (front ∷ lines_of cs) =
       subst AreTexts (lines_of-newline front cs lacks) (subst (λ x. AreTexts (lines_of (front ++ x ∷ cs))) is texts) in

@@ -25,7 +25,8 @@ use Rattle.due_set.specs.Table.{IsAfter, IsSound, Table}
 use Rattle.due_set.specs.declared.job.JobKind.{JobKind}
 use Rattle.due_set.specs.declared.job.JobKind.TheVariants.{Anacron}
 use Rattle.launch_machine.specs.Clerk.{Applies, AppliesAll, MayStart, closed_row, first_rows, opened_row}
-use Rattle.launch_machine.proofs.MachineLemmas.{same_or_not, set_here, set_there}
+use Rattle.launch_machine.proofs.MachineLemmas.{set_here, set_there}
+use Rattle.std.proofs.lemmas.Bool.{cases_eq}
 use Rattle.launch_machine.proofs.StartLemmas.{may_start_later}
 use Rattle.step_spec.proofs.Lists.{nothing_in}
 use Rattle.history.specs.Numbers.{AreRowsBelow}
@@ -93,7 +94,7 @@ AreSpread table rows = (job : ℕ) (row : JobRow) → slice_get rows job ≡ Som
 
 -- rows of which one is put in its place
 put_spreads : (table : Table) (rows : List JobRow) (job : ℕ) (new : JobRow) → AreSpread table rows → BeganBy table job new.cursor (begun new) → AreSpread table (slice_set rows job new)
-put_spreads table rows job new spread now k row is = elim (same_or_not k job) [
+put_spreads table rows job new spread now k row is = elim (cases_eq k job) [
   | inl same ↦
       let put : new ≡ row = set_here rows job row new (subst (λ (i : ℕ). slice_get (slice_set rows job new) i ≡ Some row) same is) in
       subst (λ (i : ℕ). BeganBy table i row.cursor (begun row)) (sym same) (subst (λ (r : JobRow). BeganBy table job r.cursor (begun r)) put now)

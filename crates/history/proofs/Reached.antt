@@ -47,7 +47,7 @@ use Rattle.history.proofs.Acts.{Sends, Stops, all_answered, all_answered_more, a
 use Rattle.step_spec.proofs.Lists.{flat_came, found_in, map_came, nothing_in, take_next, zip_beside}
 use Rattle.step_spec.specs.declared.out.OutLetter.{OutLetter}
 use Rattle.due_set.proofs.Rising.{Contains-head as in_first, Contains-tail as in_rest, Contains-cases as cons_cases}
-use Rattle.launch_machine.proofs.MachineLemmas.{is_some_below as row_at}
+use Rattle.due_set.proofs.SoundLemmas.{at_place as row_at}
 
 -- a row that answered a replica, as what the scheduler has told it
 abbrev pub ending_of : ℕ → SchedRow → Ending

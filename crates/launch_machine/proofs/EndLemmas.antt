@@ -13,7 +13,7 @@ use Rattle.launch_machine.specs.Clerk.{Applies, AppliesAll, IsClerkOf, TakesStar
 use Rattle.launch_machine.specs.Starts.{EndsFrom, EndsOf, EndsJob}
 use Rattle.launch_machine.proofs.ClerkLemmas.{Applies-same}
 use Rattle.launch_machine.proofs.ExistLemmas.{same_kind_or_not}
-use Rattle.launch_machine.proofs.MachineLemmas.{same_or_not}
+use Rattle.std.proofs.lemmas.Bool.{cases_eq}
 use Rattle.launch_machine.proofs.StartLemmas.{HasAt, changed, unchanged, elsewhere}
 
 -- a row's count of the kind
@@ -61,14 +61,14 @@ after_other table rows Noop middle job kind count none (inl (takes, e)) known = 
 after_other table rows Noop middle job kind count none (inr (not, e)) known = unchanged (counted kind) rows middle job count e known
 after_other table rows (Start j at now) middle job kind count none (inr (not, e)) known = unchanged (counted kind) rows middle job count e known
 after_other table rows (Start j at now) middle job kind count none (inl (takes, e)) known =
-    elim (same_or_not job j) [
+    elim (cases_eq job j) [
       | inl same ↦ after_start table rows middle job at now kind count (subst (λ (k : ℕ). TakesStart table rows k at now) (sym same) takes)
           (e ∙ ap (with_row (opened_row at now) rows) (sym same)) known
       | inr ne ↦ elsewhere (counted kind) (opened_row at now) rows middle j job count ne e known
     ]
 after_other table rows (End j at other) middle job kind count none (inr (not, e)) known = unchanged (counted kind) rows middle job count e known
 after_other table rows (End j at other) middle job kind count none (inl (takes, e)) known =
-    elim (same_or_not job j) [
+    elim (cases_eq job j) [
       | inl same ↦ elim (same_kind_or_not kind other) [
         | inl same_kind ↦ absurd (none (record {
           at = at;

@@ -15,7 +15,8 @@ use Rattle.due_set.proofs.OpenLemmas.{open_or_not, opens_on_one_date}
 use Rattle.launch_machine.specs.Clerk.{Applies, AppliesAll, IsClerkOf, MayStart, TakesStart, TakesEnd, TakesEffect, first_rows, rows_after}
 use Rattle.launch_machine.specs.Starts.{AddsEnd, AddsStart, EndsFrom, EndsJob, EndsOf, StartsFrom, StartsJob, StartsOf}
 use Rattle.launch_machine.proofs.ClerkLemmas.{Applies-same}
-use Rattle.launch_machine.proofs.MachineLemmas.{same_or_not, same_row}
+use Rattle.launch_machine.proofs.MachineLemmas.{same_row}
+use Rattle.std.proofs.lemmas.Bool.{cases_eq}
 
 pub same_kind_or_not : (a b : Kind) → (a ≡ b) ⊎ (a ≢ b)
 same_kind_or_not Launch Launch = inl refl
@@ -106,7 +107,7 @@ starts_or_not table rows (End j at kind) middle job later applies = (later, inr 
 starts_or_not table rows (Start j at now) middle job later (inr (not, e)) =
     (later, inr (λ other starts. not (subst (TakesEffect table rows) (sym starts.is) starts.takes), refl))
 starts_or_not table rows (Start j at now) middle job later (inl (takes, e)) =
-    elim (same_or_not job j) [
+    elim (cases_eq job j) [
       | inl same ↦ (
         at ∷ later,
         inl (
@@ -142,7 +143,7 @@ ends_or_not table rows (Start j at now) middle job kind later applies = (later, 
 ends_or_not table rows (End j at k) middle job kind later (inr (not, e)) =
     (later, inr (λ ends. not (subst (TakesEffect table rows) (sym ends.is) ends.takes), refl))
 ends_or_not table rows (End j at k) middle job kind later (inl (takes, e)) =
-    elim (same_or_not job j) [
+    elim (cases_eq job j) [
       | inr ne ↦ (later, inr (λ ends. ne (number ends), refl))
       | inl same ↦ elim (same_kind_or_not kind k) [
         | inr ne ↦ (later, inr (λ ends. ne (kinds ends), refl))

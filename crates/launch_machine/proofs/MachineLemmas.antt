@@ -1,12 +1,12 @@
 -- A machine's rows and what stands beside them, and what a change of one place leaves.
-use Rattle.std.proofs.Common.{◌≡◌, ◌≢◌, ℕ, zero, suc, ◌+◌, ◌<◌, ◌≤◌, ◌⊎◌, inl, inr, ◌↔◌, List, [], ◌∷◌, ◌++◌, length, get_or, Option, None, Some, ℤ, ◌≤ℤ◌, Bool, IsTrue, true, false, refl, sym, ap, ◌∙◌, subst, arith, length-append}
+use Rattle.std.proofs.Common.{◌≡◌, ◌≢◌, ℕ, zero, suc, ◌+◌, ◌<◌, ◌≤◌, inl, inr, ◌↔◌, List, [], ◌∷◌, ◌++◌, length, get_or, Option, None, Some, ℤ, ◌≤ℤ◌, Bool, IsTrue, true, false, refl, sym, ap, ◌∙◌, subst, arith, length-append}
 use Rattle.std.specs.Prelude.{map, IfNone, IfOk, IfSome, IsSome, Result, Ok, Err, slice_get, slice_set}
-use Rattle.std.proofs.Math.ListN.{set, length-set}
+use Rattle.std.proofs.Math.ListN.{length-set}
+use Rattle.std.proofs.lemmas.Bool.{cases_eq}
 use Rattle.std.proofs.lemmas.Int.{ints}
 use Rattle.std.proofs.lemmas.Option.{slice_get_within, get_or_from_slice_get, slice_get-get_or}
 use Rattle.std.specs.List.{range_with_len}
 use Rattle.std.proofs.lemmas.List.Elements.{All-map}
-use Rattle.std.proofs.lemmas.List.FromFn.{length-map-range_with_len}
 use Rattle.paxos_base.specs.Rows.{RowsStand, OpenHasCursor, OpenHaveCursors}
 use Rattle.paxos_base.specs.declared.rows.JobRow.{JobRow}
 use Rattle.paxos_base.specs.declared.entry.Kind.{Kind}
@@ -16,19 +16,15 @@ use Rattle.due_set.specs.Calls.{HasCome}
 use Rattle.due_set.specs.Anacron.{IsFirstOpening, IsJobOpen}
 use Rattle.due_set.specs.Table.{Job, Table, IsAfter, IsAnacron, IsJobDue, IsJobIn, IsNextDue, IsJobRead, IsRunByPeriod}
 use Rattle.due_set.proofs.CountLemmas.{IsNextDue-same}
+use Rattle.due_set.proofs.SoundLemmas.{at_place}
 use Rattle.due_set.proofs.OpenLemmas.{opens_on_one_date}
 use Rattle.due_set.proofs.TableLemmas.{IsRunByPeriod-kind}
 use Rattle.paxos_base.specs.declared.entry.Entry.TheVariants.{Start}
 use Rattle.paxos_base.specs.Rows.{fresh_row}
+use Rattle.paxos_base.proofs.RowLemmas.{RowsStand-fresh_rows}
 use Rattle.launch_machine.specs.Clerk.{Applies, MayStart, TakesStart, opened_row, closed_row}
 use Rattle.launch_machine.specs.Intent.{MayCall, NoCall, NoStart}
 use Rattle.launch_machine.specs.Machine.{AreBeside, IsFirstStartOf, IsFirstToStart}
-
-pub same_or_not : (a b : ℕ) → (a ≡ b) ⊎ (a ≢ b)
-same_or_not zero zero = inl refl
-same_or_not zero (suc b) = inr (λ e. omega arith)
-same_or_not (suc a) zero = inr (λ e. omega arith)
-same_or_not (suc a) (suc b) = elim (same_or_not a b) [ inl e ↦ inl (ap suc e) | inr ne ↦ inr (λ e. ne (omega arith)) ]
 
 -- what is at the place that was set
 pub set_here : {X : Type 0} (xs : List X) (i : ℕ) (x y : X) → slice_get (slice_set xs i y) i ≡ Some x → y ≡ x
@@ -43,11 +39,6 @@ set_there (z ∷ zs) zero zero y ne = absurd (ne refl)
 set_there (z ∷ zs) zero (suc k) y ne = refl
 set_there (z ∷ zs) (suc i) zero y ne = refl
 set_there (z ∷ zs) (suc i) (suc k) y ne = set_there zs i k y (λ e. ne (ap suc e))
-
-pub is_some_below : {X : Type 0} (xs : List X) (k : ℕ) → k < length xs → (x : X) × (slice_get xs k ≡ Some x)
-is_some_below [] k lt = absurd (omega arith)
-is_some_below (x ∷ xs) zero lt = (x, refl)
-is_some_below (x ∷ xs) (suc k) lt = is_some_below xs k (omega arith)
 
 pub push_last : {X : Type 0} (xs : List X) (x y : X) → slice_get (xs ++ x ∷ []) (length xs) ≡ Some y → x ≡ y
 push_last [] x y e = cc
@@ -81,7 +72,7 @@ pub beside_push : (holds : ℕ → JobRow → Option ℤ → Type 0) (rows : Lis
     → AreBesideBelow holds rows (values ++ value ∷ []) (job + 1)
 beside_push holds rows values job row value known is_row is = record {
   count = omega (arith, length-append values (value ∷ []), known.count);
-  each = λ k r v at_row at_value. elim (same_or_not k (length values)) [
+  each = λ k r v at_row at_value. elim (cases_eq k (length values)) [
     | inl e ↦ here k r v at_row at_value e
     | inr ne ↦ known.each k r v at_row (sym (push_before values value k ne) ∙ at_value)
   ];
@@ -115,7 +106,7 @@ pub beside_set : (holds : ℕ → JobRow → Option ℤ → Type 0) (rows : List
     → AreBeside holds rows values → holds job new value → AreBeside holds (slice_set rows job new) (slice_set values job value)
 beside_set holds rows values job new value known is = record {
   count = length-set values job value ∙ known.count ∙ sym (length-set rows job new);
-  each = λ k row v at_row at_value. elim (same_or_not k job) [
+  each = λ k row v at_row at_value. elim (cases_eq k job) [
     | inl k_is ↦ here k row v at_row at_value k_is
     | inr ne ↦ known.each k row v (sym (set_there rows job k new ne) ∙ at_row) (sym (set_there values job k value ne) ∙ at_value)
   ];
@@ -132,7 +123,7 @@ pub beside_row : (holds : ℕ → JobRow → Option ℤ → Type 0) (rows : List
     → slice_get rows job ≡ Some row → (value : Option ℤ) × (slice_get values job ≡ Some value) × holds job row value
 beside_row holds rows values job row known is_row =
     let lt : job < length values = subst (λ (n : ℕ). job < n) (sym known.count) (slice_get_within rows job row is_row) in
-    let found = is_some_below values job lt in
+    let found = at_place values job lt in
     (found.0, found.1, known.each job row found.0 is_row found.1)
 
 -- ---- when a job may be started
@@ -229,7 +220,7 @@ TakesStart-same table rows job a b now p q =
 pub row_put : (rows : List JobRow) (jobs job : ℕ) (new : JobRow) → RowsStand rows jobs → new.job ≡ job → RowsStand (slice_set rows job new) jobs
 row_put rows jobs job new stand number = record {
   count = length-set rows job new ∙ stand.count;
-  in_order = λ k row e. elim (same_or_not k job) [
+  in_order = λ k row e. elim (cases_eq k job) [
     | inl k_is ↦
         let row_is : new ≡ row = set_here rows job row new (subst (λ (i : ℕ). slice_get (slice_set rows job new) i ≡ Some row) k_is e) in
         ap (λ (r : JobRow). r.job) (sym row_is) ∙ number ∙ sym k_is
@@ -283,7 +274,7 @@ one_call table rows job at since now d result lt opened cursor read tells holds 
 -- one more place of which a fact holds
 pub below_next : (P : ℕ → ℤ → Type 0) (n : ℕ) → ((k : ℕ) (t : ℤ) → k < n → P k t → ⊥) → ((t : ℤ) → P n t → ⊥) → (k : ℕ) (t : ℤ) → k < n + 1 → P k t → ⊥
 below_next P n below here k t lt p =
-    elim (same_or_not k n) [
+    elim (cases_eq k n) [
       | inl e ↦ here t (subst (λ (i : ℕ). P i t) e p)
       | inr ne ↦ below k t (omega arith) p
     ]
@@ -321,16 +312,8 @@ open_closed at kind row new new_is some =
     let none : IsSome {T = ℤ} None = subst IsSome idle some in
     cc
 
-fresh_at : (a n k : ℕ) (row : JobRow) → slice_get (map fresh_row (range_with_len a n)) k ≡ Some row → row.job ≡ a + k
-fresh_at a zero k row e = cc
-fresh_at a (suc n) zero row e = let row_is : fresh_row a ≡ row = cc in let job : a ≡ row.job = ap (λ (r : JobRow). r.job) row_is in omega arith
-fresh_at a (suc n) (suc k) row e = let more : row.job ≡ a + 1 + k = fresh_at (a + 1) n k row e in omega arith
-
 pub fresh_stand : (rows : List JobRow) (n : ℕ) → rows ≡ map fresh_row (range_with_len 0 n) → RowsStand rows n
-fresh_stand rows n rows_are = record {
-  count = ap length rows_are ∙ length-map-range_with_len fresh_row 0 n;
-  in_order = λ k row e. let job : row.job ≡ 0 + k = fresh_at 0 n k row (ap (λ (r : List JobRow). slice_get r k) (sym rows_are) ∙ e) in omega arith;
-}
+fresh_stand rows n rows_are = subst (λ (r : List JobRow). RowsStand r n) (sym rows_are) (RowsStand-fresh_rows n)
 
 pub fresh_open : (rows : List JobRow) (n : ℕ) → rows ≡ map fresh_row (range_with_len 0 n) → OpenHaveCursors rows
 fresh_open rows n rows_are =

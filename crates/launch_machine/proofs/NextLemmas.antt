@@ -11,7 +11,8 @@ use Rattle.launch_machine.specs.Clerk.{TakesStart}
 use Rattle.launch_machine.specs.Intent.{MayCall}
 use Rattle.launch_machine.specs.Machine.{AreCalls, AreNextStarts, IsCallBeside, IsFirstStartOf, IsFirstToStart, IsStartBeside}
 use Rattle.launch_machine.specs.Next.{IsNextStart, StartsNoMore}
-use Rattle.launch_machine.proofs.MachineLemmas.{beside_row, is_some_below}
+use Rattle.launch_machine.proofs.MachineLemmas.{beside_row}
+use Rattle.due_set.proofs.SoundLemmas.{at_place}
 use Rattle.zone_minutes.specs.Window.{IsInWindow}
 
 -- beside a row whose job may be started stands the first instant at which it may be
@@ -66,7 +67,7 @@ pub next_start_found : (table : Table) (rows : List JobRow) (starts : List (Opti
     → IsNextStart table rows first
 next_start_found table rows starts first known least =
     let lt : least.place < length rows = subst (λ (n : ℕ). least.place < n) known.count (slice_get_within starts least.place (Some first) least.here) in
-    let row = is_some_below rows least.place lt in
+    let row = at_place rows least.place lt in
     let at = idle_first table rows starts least.place row.0 first known row.1 least.here in
     record {
       job = least.place;

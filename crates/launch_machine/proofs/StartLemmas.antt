@@ -15,7 +15,8 @@ use Rattle.due_set.proofs.Rising.{Contains-head, Contains-tail, Contains-cases, 
 use Rattle.paxos_base.specs.Rows.{fresh_row}
 use Rattle.launch_machine.specs.Clerk.{Applies, MayStart, TakesStart, TakesEnd, first_rows, opened_row, closed_row, with_row}
 use Rattle.launch_machine.specs.Starts.{StartsFrom, StartsOf, StartsJob}
-use Rattle.launch_machine.proofs.MachineLemmas.{same_or_not, set_here, set_there, closed_cursor}
+use Rattle.launch_machine.proofs.MachineLemmas.{set_here, set_there, closed_cursor}
+use Rattle.std.proofs.lemmas.Bool.{cases_eq}
 
 -- each instant is the next due one after the one before it
 abbrev pub IsChain : Table → ℕ → Option ℤ → List ℤ → Type 0
@@ -159,7 +160,7 @@ after_other table rows Noop middle job cursor none (inl (takes, e)) known = unch
 after_other table rows Noop middle job cursor none (inr (not, e)) known = unchanged (λ r. r.cursor) rows middle job cursor e known
 after_other table rows (Start j at now) middle job cursor none (inr (not, e)) known = unchanged (λ r. r.cursor) rows middle job cursor e known
 after_other table rows (Start j at now) middle job cursor none (inl (takes, e)) known =
-    elim (same_or_not job j) [
+    elim (cases_eq job j) [
       | inl same ↦ absurd (none at (record {
         now = now;
         is = ap (λ (k : ℕ). Start k at now) (sym same);
@@ -169,7 +170,7 @@ after_other table rows (Start j at now) middle job cursor none (inl (takes, e)) 
     ]
 after_other table rows (End j at kind) middle job cursor none (inr (not, e)) known = unchanged (λ r. r.cursor) rows middle job cursor e known
 after_other table rows (End j at kind) middle job cursor none (inl (takes, e)) known =
-    elim (same_or_not job j) [
+    elim (cases_eq job j) [
       | inl same ↦ after_end rows middle job at kind cursor (subst (λ (k : ℕ). TakesEnd rows k at) (sym same) takes)
           (e ∙ ap (with_row (closed_row at kind) rows) (sym same)) known
       | inr ne ↦ elsewhere (λ r. r.cursor) (closed_row at kind) rows middle j job cursor ne e known

@@ -40,7 +40,7 @@ use Rattle.history.proofs.PlainLemmas.{votes_of_deltas}
 use Rattle.launch_safety.proofs.Turns.{turn_calls, turn_votes}
 use Rattle.due_set.proofs.Rising.{Contains-head as in_first, Contains-tail as in_rest, Contains-cases as cons_cases}
 use Rattle.history.proofs.Reached.{none_waits}
-use Rattle.launch_machine.proofs.MachineLemmas.{is_some_below as row_at}
+use Rattle.due_set.proofs.SoundLemmas.{at_place as row_at}
 
 -- ---- what is held
 

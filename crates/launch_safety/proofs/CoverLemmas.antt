@@ -14,7 +14,8 @@ use Rattle.due_set.specs.Table.{Table, IsAfter, IsJobDue}
 use Rattle.paxos_base.specs.Rows.{fresh_row}
 use Rattle.launch_machine.specs.Clerk.{Applies, AppliesAll, IsClerkOf, MayStart, TakesStart, TakesEnd, first_rows, opened_row, closed_row, with_row}
 use Rattle.launch_machine.proofs.ClerkLemmas.{IsClerkOf-push}
-use Rattle.launch_machine.proofs.MachineLemmas.{due_by_instant, opens_by_period, same_or_not, set_there}
+use Rattle.launch_machine.proofs.MachineLemmas.{due_by_instant, opens_by_period, set_there}
+use Rattle.std.proofs.lemmas.Bool.{cases_eq}
 use Rattle.launch_machine.proofs.StartLemmas.{changed}
 use Rattle.launch_safety.specs.Fits.{HasStart, HasEnd}
 use Rattle.launch_safety.proofs.EffectLemmas.{IsEffective-more, IsEffective-last}
@@ -126,7 +127,7 @@ cover_next table log rows middle entry job clerk (inr (not, e)) known =
     cover_left table log (entry ∷ []) rows middle job (ap (λ (m : List JobRow). slice_get m job) e) known
 cover_next table log rows middle Noop job clerk (inl (takes, e)) known = absurd takes
 cover_next table log rows middle (Start j at now) job clerk (inl (takes, e)) known =
-    elim (same_or_not job j) [
+    elim (cases_eq job j) [
       | inl same ↦ subst (λ (k : ℕ). HasCover table (log ++ Start k at now ∷ []) middle job) same (
           cover_start table log rows middle job at now clerk (subst (λ (k : ℕ). TakesStart table rows k at now) (sym same) takes)
           (e ∙ ap (with_row (opened_row at now) rows) (sym same)) known
@@ -135,7 +136,7 @@ cover_next table log rows middle (Start j at now) job clerk (inl (takes, e)) kno
           (ap (λ (m : List JobRow). slice_get m job) e ∙ set_there rows j job (opened_row at now (get_or rows j (fresh_row j))) ne) known
     ]
 cover_next table log rows middle (End j at kind) job clerk (inl (takes, e)) known =
-    elim (same_or_not job j) [
+    elim (cases_eq job j) [
       | inl same ↦ subst (λ (k : ℕ). HasCover table (log ++ End k at kind ∷ []) middle job) same (
           cover_end table log rows middle job at kind clerk (subst (λ (k : ℕ). TakesEnd rows k at) (sym same) takes)
           (e ∙ ap (with_row (closed_row at kind) rows) (sym same)) known

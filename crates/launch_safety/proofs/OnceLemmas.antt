@@ -11,7 +11,8 @@ use Rattle.paxos_base.specs.declared.rows.JobRow.{JobRow}
 use Rattle.due_set.specs.Table.{IsAfter, Table}
 use Rattle.launch_machine.specs.Clerk.{Applies, AppliesAll, TakesEnd, TakesStart, closed_row, first_rows, opened_row, with_row}
 use Rattle.launch_machine.proofs.ClerkLemmas.{AppliesAll-same}
-use Rattle.launch_machine.proofs.MachineLemmas.{same_or_not, set_there}
+use Rattle.launch_machine.proofs.MachineLemmas.{set_there}
+use Rattle.std.proofs.lemmas.Bool.{cases_eq}
 use Rattle.launch_machine.proofs.StartLemmas.{changed, may_start_later}
 use Rattle.launch_safety.specs.Fits.{TakesEffectAfter}
 use Rattle.launch_safety.proofs.EffectLemmas.{split_order}
@@ -62,13 +63,13 @@ passed_end at rows middle job ends kind takes e known row is_row =
 passed_next : (table : Table) (at : ℤ) (rows middle : List JobRow) (entry : Entry) (job : ℕ) → Applies table rows entry middle → HasPassed at rows job → HasPassed at middle job
 passed_next table at rows middle entry job (inr (not, e)) known = passed_left at rows middle job (ap (λ (m : List JobRow). slice_get m job) e) known
 passed_next table at rows middle Noop job (inl (takes, e)) known = absurd takes
-passed_next table at rows middle (Start j later now) job (inl (takes, e)) known = elim (same_or_not job j) [
+passed_next table at rows middle (Start j later now) job (inl (takes, e)) known = elim (cases_eq job j) [
   | inl same ↦ passed_start table at rows middle job later now (subst (λ (k : ℕ). TakesStart table rows k later now) (sym same) takes)
       (e ∙ ap (with_row (opened_row later now) rows) (sym same)) known
   | inr ne ↦ passed_left at rows middle job
       (ap (λ (m : List JobRow). slice_get m job) e ∙ set_there rows j job (opened_row later now (get_or rows j (fresh_row j))) ne) known
 ]
-passed_next table at rows middle (End j ends kind) job (inl (takes, e)) known = elim (same_or_not job j) [
+passed_next table at rows middle (End j ends kind) job (inl (takes, e)) known = elim (cases_eq job j) [
   | inl same ↦ passed_end at rows middle job ends kind (subst (λ (k : ℕ). TakesEnd rows k ends) (sym same) takes)
       (e ∙ ap (with_row (closed_row ends kind) rows) (sym same)) known
   | inr ne ↦ passed_left at rows middle job

@@ -21,7 +21,8 @@ use Rattle.cluster_sched.specs.declared.row.SchedRow.{SchedRow}
 use Rattle.paxos_base.specs.Rows.{fresh_row}
 use Rattle.launch_machine.specs.Clerk.{Applies, AppliesAll, IsClerkOf, TakesStart, TakesEnd, TakesEffect, first_rows, opened_row, closed_row, with_row}
 use Rattle.launch_machine.proofs.ClerkLemmas.{IsClerkOf-push}
-use Rattle.launch_machine.proofs.MachineLemmas.{closed_cursor, may_start_on, same_or_not, set_there}
+use Rattle.launch_machine.proofs.MachineLemmas.{closed_cursor, may_start_on, set_there}
+use Rattle.std.proofs.lemmas.Bool.{cases_eq}
 use Rattle.launch_machine.proofs.StartLemmas.{changed, may_start_later}
 use Rattle.launch_safety.specs.Fits.{ArePeriodsApart, HasStart, HasEnd, IsBacked, IsEffective, IsHeld, IsPeriodApart, TakesEffectAfter}
 use Rattle.launch_safety.specs.Launched.{IsCalledAt, IsLatest, OpensBy}
@@ -205,7 +206,7 @@ dates_next table log rows middle entry job clerk (inr (not, e)) known =
     dates_left table log rows middle entry job clerk (ap (λ (m : List JobRow). slice_get m job) e) known (λ t now is takes. not takes) (λ t kind is takes. not takes)
 dates_next table log rows middle Noop job clerk (inl (takes, e)) known = absurd takes
 dates_next table log rows middle (Start j at now) job clerk (inl (takes, e)) known =
-    elim (same_or_not job j) [
+    elim (cases_eq job j) [
       | inl same ↦ subst (λ (k : ℕ). HasDates table (log ++ Start k at now ∷ []) middle job) same (
           dates_start table log rows middle job at now clerk (subst (λ (k : ℕ). TakesStart table rows k at now) (sym same) takes)
           (e ∙ ap (with_row (opened_row at now) rows) (sym same)) known
@@ -215,7 +216,7 @@ dates_next table log rows middle (Start j at now) job clerk (inl (takes, e)) kno
           (λ t then is again. ne (cc is)) (λ t kind is again. absurd (cc is))
     ]
 dates_next table log rows middle (End j at kind) job clerk (inl (takes, e)) known =
-    elim (same_or_not job j) [
+    elim (cases_eq job j) [
       | inl same ↦ subst (λ (k : ℕ). HasDates table (log ++ End k at kind ∷ []) middle job) same (
           dates_end table log rows middle job at kind clerk (subst (λ (k : ℕ). TakesEnd rows k at) (sym same) takes)
           (e ∙ ap (with_row (closed_row at kind) rows) (sym same)) known

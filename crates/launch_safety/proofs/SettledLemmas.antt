@@ -15,7 +15,7 @@ use Rattle.due_set.specs.declared.job.JobKind.{JobKind}
 use Rattle.due_set.proofs.ExistLemmas.{next_up_to}
 use Rattle.paxos_base.specs.Rows.{fresh_row}
 use Rattle.launch_machine.specs.Clerk.{Applies, AppliesAll, IsClerkOf, first_rows, opened_row, closed_row}
-use Rattle.launch_machine.proofs.MachineLemmas.{is_some_below}
+use Rattle.due_set.proofs.SoundLemmas.{at_place}
 use Rattle.launch_safety.specs.Fits.{HasStart, HasEnd}
 use Rattle.launch_safety.specs.Settled.{IsSettled}
 use Rattle.launch_safety.proofs.CoverLemmas.{IsCovered, IsOver, clerk_covers}
@@ -40,7 +40,7 @@ pub row_of : (table : Table) (log : List Entry) (rows : List JobRow) (job : ℕ)
 row_of table log rows job clerk lt =
     let count : length rows ≡ length table.jobs =
     AppliesAll-length table (first_rows table) log rows clerk ∙ length-map-range_with_len fresh_row 0 (length table.jobs) in
-    is_some_below rows job (subst (λ (n : ℕ). job < n) (sym count) lt)
+    at_place rows job (subst (λ (n : ℕ). job < n) (sym count) lt)
 
 module _ (table : Table) (log : List Entry) (now : ℤ) (job : ℕ) (at : ℤ) (settled : IsSettled table log now)
     (due : IsJobDue table job at) (come : at ≤ℤ now) where

@@ -36,7 +36,7 @@ use Rattle.launch_safety.specs.Readings.{AreTurnsBy, IsTurnBy, ReadsBy}
 use Rattle.launch_safety.specs.Asked.{IsAskedAt, ReadsAt, TicksAt}
 use Rattle.launch_safety.proofs.Asking.{AsksEntry, AsksIn, row_call, row_votes}
 use Rattle.due_set.proofs.Rising.{Contains-head as in_first, Contains-cases as cons_cases}
-use Rattle.launch_machine.proofs.MachineLemmas.{is_some_below as row_at}
+use Rattle.due_set.proofs.SoundLemmas.{at_place as row_at}
 
 -- ---- what was asked for stays so
 

@@ -3,7 +3,7 @@ use Rattle.std.proofs.Common.{◌≡◌, ℕ, Some, List, [], ◌∷◌, get_or,
 use Rattle.std.specs.Prelude.{slice_get, slice_set}
 use Rattle.std.specs.List.{AllByRecursion, Contains}
 use Rattle.std.proofs.Math.ListN.{length-set}
-use Rattle.std.proofs.lemmas.Bool.{false≢true}
+use Rattle.std.proofs.lemmas.Bool.{false≢true, cases_eq}
 use Rattle.std.proofs.lemmas.List.Elements.{All-set}
 use Rattle.std.proofs.lemmas.Option.{get_or_from_slice_get, slice_get-get_or, slice_get_within}
 use Rattle.paxos_base.specs.Rows.{OpenHasCursor, OpenHaveCursors, RowsStand, fresh_row}
@@ -14,7 +14,7 @@ use Rattle.paxos_base.specs.declared.entry.Kind.TheVariants.{Launch, Void}
 use Rattle.paxos_base.specs.declared.rows.JobRow.{JobRow}
 use Rattle.due_set.specs.Table.{Table}
 use Rattle.launch_machine.specs.Clerk.{Applies, AppliesAll, closed_row, opened_row}
-use Rattle.launch_machine.proofs.MachineLemmas.{same_or_not, set_here, set_there, closed_job as closed-job}
+use Rattle.launch_machine.proofs.MachineLemmas.{set_here, set_there, closed_job as closed-job}
 use Rattle.step_spec.specs.Letters.{IsHeardAs}
 use Rattle.step_spec.specs.Message.{Message, Prepare, Promise, Accept, Accepted, Nack, Known, AskFrom, Snap, Lead, Mention}
 use Rattle.step_spec.proofs.RowLemmas.{copied_stand, heard_stand}
@@ -26,7 +26,7 @@ use Rattle.due_set.proofs.Rising.{Contains-head as in_first, Contains-tail as in
 stand-set : (rows : List JobRow) (jobs job : ℕ) (row new : JobRow) → slice_get rows job ≡ Some row → new.job ≡ row.job → RowsStand (slice_set rows job new) jobs → RowsStand rows jobs
 stand-set rows jobs job row new is same stand = record {
   count = sym (length-set rows job new) ∙ stand.count;
-  in_order = λ k other there. elim (same_or_not k job) [
+  in_order = λ k other there. elim (cases_eq k job) [
     | inl here ↦
         let within = slice_get_within rows job row is in
         let there_now : slice_get (slice_set rows job new) job ≡ Some (get_or (slice_set rows job new) job new) = slice_get-get_or (slice_set rows job new) job new (rw (length-set rows job new) within) in

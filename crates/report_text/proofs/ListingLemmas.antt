@@ -1,14 +1,14 @@
 -- The rows of a job in a report's order are its due instants in order.
-use Rattle.std.proofs.Common.{◌≡◌, ◌≢◌, ◌↔◌, inl, inr, ℕ, suc, Bool, true, false, cond, ◌==◌, List, [], ◌∷◌, get_or, map, sym, ap, ◌∙◌, subst, arith, ℤ, ◌<ℤ◌}
+use Rattle.std.proofs.Common.{◌≡◌, ◌≢◌, ◌↔◌, inl, inr, ℕ, suc, Bool, true, ◌==◌, List, [], ◌∷◌, get_or, map, sym, ◌∙◌, subst, arith, ℤ, ◌<ℤ◌}
 use Rattle.std.specs.Prelude.{All, AllPairs, Contains, filter, ◌≤ℤ◌}
 use Rattle.std.proofs.lemmas.Bool.{eqb-true, eq-eqb}
 use Rattle.std.proofs.lemmas.Int.{ints}
-use Rattle.std.proofs.lemmas.List.Elements.{All-contains, All-contains_itself, All-filter, All-map, All-head, All-tail, filter_passes, recursion_from_All}
+use Rattle.std.proofs.lemmas.List.Elements.{All-contains, All-map, All-head, All-tail, filter_passes, recursion_from_All}
 use Rattle.std.proofs.lemmas.List.Kept.{AllPairs-filter}
 use Rattle.std.proofs.lemmas.List.Sorted.{IsPermutation-sym, Contains-permutation}
 use Rattle.due_set.specs.Due.{IsRising}
 use Rattle.due_set.specs.Table.{Table, IsJobDue, IsJobDueList, IsRunByPeriod}
-use Rattle.due_set.proofs.Rising.{Contains-head, Contains-tail, Contains-cases, Contains-none}
+use Rattle.due_set.proofs.Rising.{Contains-head, Contains-tail, Contains-cases, Contains-none, Contains-map}
 use Rattle.paxos_base.specs.declared.entry.Kind.TheVariants.{Launch}
 use Rattle.cluster_sched.specs.Held.{AreNamedOnce}
 use Rattle.cluster_sched.specs.declared.row.SchedRow.{SchedRow}
@@ -18,7 +18,7 @@ use Rattle.launch_safety.proofs.FitLemmas.{launched_due, name_is as same_name}
 use Rattle.report_text.specs.Report.{IsInOrder, IsNotAfter}
 use Rattle.report_text.specs.Listing.{instants_of}
 use Rattle.report_text.proofs.OneOrder.{AreNamedOnce-permutation}
-use Rattle.step_spec.proofs.ListLemmas.{from_filter as Contains-from_filter, in_map as Contains-map, kept_first, kept_behind, in_filter as Contains-filter}
+use Rattle.step_spec.proofs.ListLemmas.{from_filter as Contains-from_filter, in_filter as Contains-filter}
 
 -- where both are of one job, the first is earlier
 abbrev IsBefore : SchedRow → SchedRow → Type 0

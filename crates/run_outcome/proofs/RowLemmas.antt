@@ -9,5 +9,4 @@ use Rattle.paxos_base.specs.declared.rows.JobRow.{JobRow}
 use Rattle.paxos_base.specs.Rows.{fresh_row}
 use Rattle.due_set.specs.Table.{Table}
 use Rattle.launch_machine.specs.Clerk.{Applies, AppliesAll, IsClerkOf, first_rows, opened_row, closed_row}
-use Rattle.launch_machine.proofs.MachineLemmas.{is_some_below}
 use Rattle.launch_safety.proofs.SettledLemmas.{Applies-length as one_length, AppliesAll-length as all_length}

@@ -7,13 +7,12 @@ use Rattle.std.proofs.lemmas.List.Elements.{Contains-append_left, Contains-appen
 use Rattle.zone_minutes.specs.declared.minute.Minute.{Minute}
 use Rattle.zone_minutes.specs.declared.minute.Window.{Window}
 use Rattle.cluster_sched.specs.declared.row.SchedRow.{SchedRow}
-use Rattle.due_set.proofs.Rising.{Contains-head, Contains-cases, Contains-none}
+use Rattle.due_set.proofs.Rising.{Contains-head, Contains-cases, Contains-none, Contains-map}
 use Rattle.history.specs.declared.turn.Cause.{Cause}
 use Rattle.history.specs.declared.turn.Cause.TheVariants.{Tick, Hear, Answer}
 use Rattle.script_semantics.specs.Round.{answer_tasks, clock_reading, hear_tasks, round_tasks, tasks_of}
 use Rattle.script_semantics.specs.Situation.{Situation, Task, Do}
 use Rattle.script_semantics.proofs.ListLemmas.{from_flat_map, from_map, in_flat_map, in_range}
-use Rattle.step_spec.proofs.ListLemmas.{in_map}
 
 -- the task takes an answer that waits
 record Takes (situation : Situation) (who : ℕ) (task : Task) : Type 0 where
@@ -153,7 +152,7 @@ heard members window at situation who number member runs waits =
     let tick = Do who (Tick (clock_reading window at (situation.skews who))) in
     in_round members window at situation who (Do who (Hear number)) member runs
     (Contains-append_right (answer_tasks who (situation.standing.waits who)) (hear_tasks who (situation.mails who) ++ tick ∷ []) (Do who (Hear number))
-    (Contains-append_left (hear_tasks who (situation.mails who)) (tick ∷ []) (Do who (Hear number)) (in_map (λ n. Do who (Hear n)) (situation.mails who) number waits)))
+    (Contains-append_left (hear_tasks who (situation.mails who)) (tick ∷ []) (Do who (Hear number)) (Contains-map (λ n. Do who (Hear n)) (situation.mails who) number waits)))
 
 pub ticks : (members : ℕ) (window : Window) (at : ℤ) (situation : Situation) (who : ℕ) → who < members
     → situation.standing.runs who ≡ true

@@ -1,5 +1,5 @@
 -- Lists: what maps and filters keep, and what is found.
-use Rattle.std.proofs.Common.{◌≡◌, ℕ, ◌+◌, ◌-◌, Bool, true, false, cond, List, [], ◌∷◌, map, inl, inr, ap, ◌∙◌, subst, arith, zero, suc, Some, ◌++◌, refl}
+use Rattle.std.proofs.Common.{◌≡◌, ℕ, ◌+◌, ◌-◌, Bool, true, false, cond, List, [], ◌∷◌, inl, inr, ap, ◌∙◌, subst, arith, zero, suc, Some, ◌++◌}
 use Rattle.std.specs.Prelude.{Contains, filter}
 use Rattle.std.proofs.lemmas.List.Elements.{All-contains, All-contains_itself, All-filter}
 use Rattle.due_set.proofs.Rising.{Contains-head, Contains-tail, Contains-cases, Contains-none}
@@ -8,13 +8,6 @@ use Rattle.due_set.specs.Table.{Table}
 use Rattle.paxos_base.specs.declared.entry.Entry.{Entry}
 use Rattle.paxos_base.specs.declared.rows.JobRow.{JobRow}
 use Rattle.launch_machine.specs.Clerk.{AppliesAll}
-
-pub in_map : {X Y : Type 0} (f : X → Y) (xs : List X) (x : X) → Contains xs x → Contains (map f xs) (f x)
-in_map f [] x has = absurd (Contains-none x has)
-in_map f (first ∷ xs) x has = elim (Contains-cases first xs x has) [
-  | inl same ↦ subst (λ y. Contains (f first ∷ map f xs) (f y)) same (Contains-head (f first) (map f xs))
-  | inr more ↦ Contains-tail (f first) (map f xs) (f x) (in_map f xs x more)
-]
 
 pub kept_first : {X : Type 0} (b : Bool) (x : X) (xs : List X) → b ≡ true → Contains (cond b (x ∷ xs) xs) x
 kept_first true x xs is = Contains-head x xs

@@ -36,7 +36,7 @@ use Rattle.world_rounds.specs.declared.member.Member.{Member}
 use Rattle.world_steps.specs.Parts.{armed_in}
 use Rattle.world_rounds.specs.declared.world.World.{World}
 use Rattle.history.proofs.Standings.{fact_there}
-use Rattle.launch_machine.proofs.MachineLemmas.{is_some_below as found_at}
+use Rattle.due_set.proofs.SoundLemmas.{at_place as found_at}
 
 no_skew : IsSkew (pos 0)
 no_skew = (omega (arith, ints), omega (arith, ints))

@@ -31,7 +31,7 @@ use Rattle.world_rounds.specs.World.{GoesOnBy, IsWorld, IsWorldAt}
 use Rattle.world_rounds.specs.declared.world.World.{World}
 use Rattle.due_set.proofs.Rising.{Contains-head as in_first, Contains-tail as in_rest, Contains-cases as cons_cases}
 use Rattle.history.proofs.Standings.{fact_here, fact_there}
-use Rattle.launch_machine.proofs.MachineLemmas.{is_some_below as found_at}
+use Rattle.due_set.proofs.SoundLemmas.{at_place as found_at}
 use Rattle.script_semantics.proofs.RunningLemmas.{one_step, campaign_steps}
 
 -- ---- how drains are put together

@@ -36,7 +36,7 @@ use Rattle.world_rounds.specs.World.{GoesOnBy, IsWorld, IsWorldAt}
 use Rattle.world_rounds.specs.declared.member.Member.{Member}
 use Rattle.world_rounds.specs.declared.world.World.{World}
 use Rattle.due_set.proofs.Rising.{Contains-head as in_first, Contains-tail as in_rest, Contains-cases as cons_cases}
-use Rattle.launch_machine.proofs.MachineLemmas.{is_some_below as found_at}
+use Rattle.due_set.proofs.SoundLemmas.{at_place as found_at}
 use Rattle.script_semantics.proofs.OtherLemmas.{posts as posted_one}
 
 -- ---- letters

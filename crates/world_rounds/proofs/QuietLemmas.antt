@@ -30,7 +30,7 @@ use Rattle.world_rounds.specs.World.{IsWorld, IsWorldAt}
 use Rattle.world_rounds.specs.declared.member.Member.{Member}
 use Rattle.world_rounds.specs.declared.world.World.{World}
 use Rattle.due_set.proofs.Rising.{Contains-cases as cons_cases}
-use Rattle.launch_machine.proofs.MachineLemmas.{is_some_below as found_at}
+use Rattle.due_set.proofs.SoundLemmas.{at_place as found_at}
 
 -- ---- a term
 

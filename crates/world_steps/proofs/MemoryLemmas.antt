@@ -28,7 +28,7 @@ use Rattle.world_law.specs.Replicas.{IsLetterInput}
 use Rattle.world_law.specs.declared.letter.LetterRow.{LetterRow}
 use Rattle.world_steps.specs.Steps.{IsBeside, IsToldOf, TookSteps, WasToldOf, waits_behind, waits_in}
 use Rattle.world_steps.specs.declared.steps.Taken.{Taken}
-use Rattle.step_spec.proofs.ListLemmas.{in_map}
+use Rattle.due_set.proofs.Rising.{Contains-map}
 
 -- ---- an answer that tells of no disk and of no letter
 
@@ -60,7 +60,7 @@ letter_breaks_none : (table : Table) (rows : List Row) (book : BookState) (numbe
     → letter_fault_of book.members letter.bytes ≡ None
 letter_breaks_none table rows book number letter behind there =
     posted_breaks_none book.members table rows (posted_as letter) behind.legal
-    (subst (λ (posted : List PostedLetter). Contains posted (posted_as letter)) behind.letters (in_map posted_as book.letters letter (found_in book.letters number letter there)))
+    (subst (λ (posted : List PostedLetter). Contains posted (posted_as letter)) behind.letters (Contains-map posted_as book.letters letter (found_in book.letters number letter there)))
 
 heard_breaks_none : (members : ℕ) (told : Input) (bytes : List ℕ) → letter_fault_of members bytes ≡ None → IsLetterInput told bytes → fault_in members told ≡ None
 heard_breaks_none members input.Campaign bytes none is = absurd is

@@ -15,7 +15,7 @@ use Rattle.history.specs.declared.turn.Turn.TheVariants.{Did, Stopped, Restarted
 use Rattle.history.proofs.Keeping.{stands_next}
 use Rattle.world_law.specs.Book.{BookState, StandsBehind, standing_behind}
 use Rattle.world_law.specs.Replicas.{StandsStopped}
-use Rattle.launch_machine.proofs.MachineLemmas.{is_some_below as row_at}
+use Rattle.due_set.proofs.SoundLemmas.{at_place as row_at}
 
 -- each replica that is stopped has what it keeps, and nothing else
 abbrev HaveKept : ℕ → Standing → Type 0

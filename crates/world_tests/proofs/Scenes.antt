@@ -1,10 +1,10 @@
 -- All replicas after a turn of one of them, and after an arrival.
 use Rattle.std.proofs.Common.{◌≡◌, ◌≢◌, ◌+◌, ◌≤◌, ◌<◌, ℕ, List, [], ◌∷◌, ◌++◌, length, Some, None, refl, ap, ◌∙◌, sym, subst, inl, inr}
 use Rattle.std.specs.List.{slice_get}
-use Rattle.std.proofs.lemmas.Bool.{lt-ltb}
+use Rattle.std.proofs.lemmas.Bool.{lt-ltb, cases_eq}
 use Rattle.std.proofs.lemmas.List.{length-append}
 use Rattle.due_set.specs.Table.{Table}
-use Rattle.launch_machine.proofs.MachineLemmas.{push_before, push_last, same_or_not}
+use Rattle.launch_machine.proofs.MachineLemmas.{push_before, push_last}
 use Rattle.step_spec.specs.State.{Identity, started}
 use Rattle.world_law.specs.Book.{BookState, StandsBehind}
 use Rattle.world_tests.specs.Scene.{AreNew, HasArrived, IsLegalScene}
@@ -19,7 +19,7 @@ scene_goes_on table book after seats new who seat scene goes here there = record
   rows = scene.rows ++ goes.row ∷ [];
   rests = goes.rests;
   seated = λ other found is.
-      elim (same_or_not other who) [
+      elim (cases_eq other who) [
         | inl same ↦
             subst (λ other. IsSeated table (scene.rows ++ goes.row ∷ []) after other found) (sym same)
             (subst (IsSeated table (scene.rows ++ goes.row ∷ []) after who) (sym (here found (subst (λ other. slice_get new other ≡ Some found) same is))) goes.seated)
@@ -50,7 +50,7 @@ pub first_next : (table : Table) (members count : ℕ) (seats : List SeatState) 
 first_next table members count seats seat first new = record {
   long = length-append seats (seat ∷ []) ∙ ap (λ n. n + 1) first.long;
   new = λ who found is.
-      elim (same_or_not who (length seats)) [
+      elim (cases_eq who (length seats)) [
         | inl same ↦
             subst (IsNew table who members) (push_last seats seat found (subst (λ who. slice_get (seats ++ seat ∷ []) who ≡ Some found) same is))
             (subst (λ who. IsNew table who members seat) (sym (same ∙ first.long)) new)
