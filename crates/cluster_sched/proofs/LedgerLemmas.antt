@@ -33,7 +33,7 @@ Decides-name_eq a b =
         e
 
 -- a row of another name stands before what a look finds
-IsLookedUp-later : (row : SchedRow) (held : List SchedRow) (name : Name) (found : Option SchedRow)
+pub IsLookedUp-later : (row : SchedRow) (held : List SchedRow) (name : Name) (found : Option SchedRow)
     → row.name ≢ name → IsLookedUp held name found → IsLookedUp (row ∷ held) name found
 IsLookedUp-later row held name None other none = All-cons (λ r. r.name ≢ name) row held other none
 IsLookedUp-later row held name (Some first) other is = record {

@@ -1,6 +1,5 @@
 -- A leader that has voted at its prefix in its own ballot, as it does where another asks it to, votes there once more.
-use Rattle.std.proofs.Common.{◌≡◌, ℕ, zero, suc, pos, List, [], ◌∷◌, Some, None, refl, ap, arith}
-use Rattle.std.specs.List.{slice_get}
+use Rattle.std.proofs.Common.{◌≡◌, zero, suc, pos, List, [], ◌∷◌, Some, None, refl, ap, arith}
 use Rattle.due_set.specs.Table.{Table}
 use Rattle.launch_machine.specs.declared.machine.Intent.TheVariants as intent
 use Rattle.paxos_base.specs.Durable.{after_delta}
@@ -17,6 +16,7 @@ use Rattle.step_spec.specs.Propose.{propose, tick}
 use Rattle.step_spec.specs.State.{Identity, State}
 use Rattle.step_spec.specs.Step.{Event, IsPlanned, Tick, step}
 use Rattle.durable_changes.proofs.Altering.{choose_changes}
+use Rattle.step_spec.proofs.ListLemmas.{nothing_found}
 
 abbrev pub first_of_three : Identity
 first_of_three = record { me = 0; members = 3 }
@@ -50,9 +50,6 @@ is_coherent = record {
   term = (record { promised = refl; member = refl; round = refl }, tt);
   votes = up_to_own;
 }
-
-nothing_found : {X : Type 0} {x : X} (k : ℕ) → slice_get [] k ≡ Some x → ⊥
-nothing_found k is = cc
 
 pub is_planned : IsPlanned no_jobs leader tick_now
 is_planned = (refl, ((λ job at may. nothing_found job may.is_row), (λ job at takes. nothing_found job takes.is_row)))

@@ -1,5 +1,5 @@
 -- Each legal book agrees.
-use Rattle.std.proofs.Common.{◌≡◌, ℕ, zero, suc, ◌≤◌, Some, List, [], ◌∷◌, length, take, refl, sym, ap, subst}
+use Rattle.std.proofs.Common.{◌≡◌, ℕ, zero, suc, ◌≤◌, Some, List, [], ◌∷◌, take, refl, sym, ap, subst}
 use Rattle.std.specs.List.{slice_get}
 use Rattle.paxos_base.specs.declared.entry.Entry.{Entry}
 use Rattle.due_set.specs.Table.{Table}
@@ -7,16 +7,13 @@ use Rattle.launch_machine.specs.Clerk.{first_rows}
 use Rattle.launch_machine.proofs.ExistLemmas.{all_applied}
 use Rattle.agreement.specs.Agree.{IsChosen}
 use Rattle.agreement.specs.Log.{FollowsLog, IsLog}
-use Rattle.agreement.specs.Transition.{after_transitions}
-use Rattle.agreement.specs.World.{World, first_world}
 use Rattle.agreement.proofs.LogLemmas.{one_log, some_log}
 use Rattle.agreement.proofs.Tables.{follows, short_of}
-use Rattle.agreement.proofs.Transitions.{IsFollowed, first_followed, transitions_followed}
 use Rattle.agreement.proofs.Whole.{IsWhole, whole_one}
 use Rattle.history.specs.Agrees.{Agrees}
-use Rattle.history.specs.Book.{Row, learned_in, standing_after, votes_in}
+use Rattle.history.specs.Book.{Row, standing_after, votes_in}
 use Rattle.history.specs.Legal.{IsLegal, MayFollow}
-use Rattle.history.proofs.Reached.{Matches, reaches}
+use Rattle.history.proofs.BookLemmas.{Stands, stands}
 
 -- ---- cuts
 
@@ -34,21 +31,6 @@ cut_is_legal n table book k legal i row is =
     subst (λ rows. MayFollow n table (standing_after n (first_rows table) rows) row.turn row) (sym found.1) (legal i row found.0)
 
 -- ---- agreement
-
--- a world that comes to what a legal book comes to
-record Stands (n : ℕ) (table : Table) (book : List Row) : Type 0 where
-  w : World
-  followed : IsFollowed n table (first_rows table) w
-  matches : Matches n (length table.jobs) (standing_after n (first_rows table) book) (votes_in book) (learned_in book) w
-
-stands : (n : ℕ) (table : Table) (book : List Row) → n ≤ 7 → IsLegal n table book → Stands n table book
-stands n table book few legal =
-    let to = reaches n table book legal in
-    record {
-      w = after_transitions n to.turns (first_world (first_rows table));
-      followed = transitions_followed n table (first_rows table) (first_world (first_rows table)) to.turns few (first_followed n table (first_rows table)) to.are;
-      matches = to.matches;
-    }
 
 pub agrees : (n : ℕ) (table : Table) (book : List Row) → n ≤ 7 → IsLegal n table book → Agrees n table book
 agrees n table book few legal = record {

@@ -34,10 +34,10 @@ use Rattle.history.specs.Takeover.{AsksFor}
 abbrev every : FieldSet
 every = record { bits = 2 ^ 64 - 2 ^ 0; star = true; hashed = false }
 
-abbrev each_minute : Fields
+abbrev pub each_minute : Fields
 each_minute = record { minute = every; hour = every; month_day = every; month = every; week_day = every }
 
-abbrev only_job : Job
+abbrev pub only_job : Job
 only_job = record { name = []; zone = 0; kind = Crontab each_minute }
 
 abbrev some_minutes : Window
@@ -81,7 +81,7 @@ pub small_weekday : (day : ℤ) → unsigned_abs (int_rem_euclid day (pos 7)) < 
 small_weekday (pos n) = omega arith
 small_weekday (negsuc n) = omega arith
 
-matches_all : (local : ℤ) → IsCalendarMinute local → Matches each_minute local
+pub matches_all : (local : ℤ) → IsCalendarMinute local → Matches each_minute local
 matches_all local inside =
     let clock : IsWithinClock (civil_at local) = IsWithinClock-at local (civil_at local) inside refl in
     record {

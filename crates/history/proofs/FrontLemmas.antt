@@ -1,5 +1,5 @@
 -- What is so of the first turns of a legal book.
-use Rattle.std.proofs.Common.{◌≡◌, ℕ, Some, List, [], ◌∷◌, ◌++◌, length, take, refl, ap, subst, arith, ◌-◌, ◌≢◌}
+use Rattle.std.proofs.Common.{◌≡◌, ℕ, Some, List, [], ◌∷◌, ◌++◌, length, take, refl, ap, subst, ◌≢◌}
 use Rattle.std.specs.List.{slice_get}
 use Rattle.due_set.specs.Table.{Table}
 use Rattle.launch_machine.specs.Clerk.{first_rows}

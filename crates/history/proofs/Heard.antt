@@ -1,6 +1,6 @@
 -- The letters of a legal book are within the bounds that a replica counts with, so that they are heard whole.
-use Rattle.std.proofs.Common.{◌≡◌, ℕ, zero, suc, ◌+◌, ◌*◌, ◌<◌, ◌≤◌, ◌^◌, true, ltb, List, [], ◌∷◌, ◌++◌, length, map, get_or, inl, inr, refl, sym, ap, ◌∙◌, arith}
-use Rattle.std.specs.List.{Contains, flat_map, range_with_len}
+use Rattle.std.proofs.Common.{◌≡◌, ℕ, ◌+◌, ◌*◌, ◌<◌, ◌≤◌, ◌^◌, true, ltb, List, [], ◌∷◌, ◌++◌, length, map, get_or, inl, inr, refl, sym, ap, ◌∙◌, arith}
+use Rattle.std.specs.List.{Contains, flat_map}
 use Rattle.std.proofs.lemmas.Bool.{and_from, and_parts, eq-eqb, lt-ltb}
 use Rattle.std.proofs.lemmas.List.{length-set}
 use Rattle.std.proofs.lemmas.List.Elements.{All-contains}
@@ -31,22 +31,19 @@ use Rattle.history.proofs.BookLemmas.{stands}
 use Rattle.history.proofs.Launched.{few_launched}
 use Rattle.history.proofs.Within.{message_within}
 use Rattle.due_set.proofs.Rising.{Contains-head as in_first, Contains-tail as in_rest}
+use Rattle.std.proofs.lemmas.List.FromFn.{length-map-range_with_len}
 
 -- ---- rows
 
-applies_length : (table : Table) (rows : List JobRow) (entry : Entry) (middle : List JobRow) → Applies table rows entry middle → length middle ≡ length rows
-applies_length table rows Noop middle (inl (takes, is)) = absurd takes
-applies_length table rows (Start job at now) middle (inl (takes, is)) = ap length is ∙ length-set rows job (opened_row at now (get_or rows job (fresh_row job)))
-applies_length table rows (End job at kind) middle (inl (takes, is)) = ap length is ∙ length-set rows job (closed_row at kind (get_or rows job (fresh_row job)))
-applies_length table rows entry middle (inr (none, is)) = ap length is
+pub Applies-length : (table : Table) (rows : List JobRow) (entry : Entry) (middle : List JobRow) → Applies table rows entry middle → length middle ≡ length rows
+Applies-length table rows Noop middle (inl (takes, is)) = absurd takes
+Applies-length table rows (Start job at now) middle (inl (takes, is)) = ap length is ∙ length-set rows job (opened_row at now (get_or rows job (fresh_row job)))
+Applies-length table rows (End job at kind) middle (inl (takes, is)) = ap length is ∙ length-set rows job (closed_row at kind (get_or rows job (fresh_row job)))
+Applies-length table rows entry middle (inr (none, is)) = ap length is
 
-all_length : (table : Table) (rows : List JobRow) (entries : List Entry) (last : List JobRow) → AppliesAll table rows entries last → length last ≡ length rows
-all_length table rows [] last is = ap length is
-all_length table rows (entry ∷ entries) last (middle, applies, rest) = all_length table middle entries last rest ∙ applies_length table rows entry middle applies
-
-fresh_length : (from count : ℕ) → length (map fresh_row (range_with_len from count)) ≡ count
-fresh_length from zero = refl
-fresh_length from (suc count) = ap suc (fresh_length (from + 1) count)
+pub AppliesAll-length : (table : Table) (rows : List JobRow) (entries : List Entry) (last : List JobRow) → AppliesAll table rows entries last → length last ≡ length rows
+AppliesAll-length table rows [] last is = ap length is
+AppliesAll-length table rows (entry ∷ entries) last (middle, applies, rest) = AppliesAll-length table middle entries last rest ∙ Applies-length table rows entry middle applies
 
 -- the rows that a message has are one for each job, and their counts are within the bounds
 abbrev HasRows : Table → Message → Type 0
@@ -56,7 +53,7 @@ HasRows table message = Unit {0}
 has_rows : (n : ℕ) (table : Table) (w : World) (q : ℕ) (message : Message) → IsSound table → IsFollowed n table (first_rows table) w → HasSaid w.said q message → HasRows table message
 has_rows n table w q (Snap slot rows) sound followed has =
     let at = followed.tables.snaps q slot rows has in
-    (all_length table (first_rows table) at.entries rows at.applied ∙ fresh_length 0 (length table.jobs), few_launched table at.entries rows sound at.applied)
+    (AppliesAll-length table (first_rows table) at.entries rows at.applied ∙ length-map-range_with_len fresh_row 0 (length table.jobs), few_launched table at.entries rows sound at.applied)
 has_rows n table w q message sound followed has = tt
 
 -- ---- packets

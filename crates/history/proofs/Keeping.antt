@@ -1,11 +1,10 @@
 -- What a program that keeps a book looks up, and by what a book goes on.
-use Rattle.std.proofs.Common.{◌≡◌, ◌≢◌, ℕ, Bool, true, false, eqb, Option, Some, None, List, [], ◌∷◌, ◌++◌, length, Result, refl, sym, ap, ◌∙◌, inl, inr, arith, subst, ℤ}
+use Rattle.std.proofs.Common.{◌≡◌, ◌≢◌, ℕ, Bool, true, false, eqb, Option, Some, List, [], ◌∷◌, ◌++◌, length, Result, refl, sym, ap, ◌∙◌, inl, inr, arith, subst, ℤ}
 use Rattle.std.specs.List.{flat_map}
 use Rattle.std.specs.Ordering.{int_eq}
 use Rattle.std.proofs.lemmas.Bool.Decides.{Decides-int_eq}
 use Rattle.std.proofs.lemmas.Bool.{and_parts, cases_Bool, eq-eqb, eqb-true}
 use Rattle.std.proofs.lemmas.List.Concat.{flat_map-append}
-use Rattle.std.proofs.lemmas.List.Elements.{All-cons}
 use Rattle.std.proofs.lemmas.List.Sums.{fold_push}
 use Rattle.paxos_base.specs.declared.rows.JobRow.{JobRow}
 use Rattle.paxos_letter.proofs.LetterLemmas.{letter_again}
@@ -24,7 +23,7 @@ use Rattle.step_spec.specs.Folds.{deltas_by, deltas_of}
 use Rattle.step_spec.specs.Letters.{IsHeardAs, heard_in}
 use Rattle.step_spec.specs.Message.{Message}
 use Rattle.step_spec.specs.State.{State}
-use Rattle.step_spec.specs.Step.{Event, IsLaunchTable, IsPlanned, Plan}
+use Rattle.step_spec.specs.Step.{Event, IsPlanned, Plan}
 use Rattle.step_spec.specs.Step as told
 use Rattle.history.specs.Book.{Row, Standing, after_row, arriving, first_standing, held_after, is_name, late_after, standing_after, under, vote_of_delta, votes_by, votes_of}
 use Rattle.history.specs.Legal.{IsAnswered, IsHeard, IsLegal, TakesTurn, answered}
@@ -32,6 +31,7 @@ use Rattle.history.specs.declared.turn.CallRow.{CallRow}
 use Rattle.history.specs.declared.turn.Cause.{Cause}
 use Rattle.history.specs.declared.turn.Cause.TheVariants.{Campaign, Tick, Hear, Answer}
 use Rattle.launch_machine.proofs.IntentLemmas.{one_intent, same_some}
+use Rattle.cluster_sched.proofs.LedgerLemmas.{IsLookedUp-later}
 
 -- ---- votes and changes
 
@@ -67,21 +67,11 @@ not_named one other is same =
     let named : is_name one other ≡ true = rw (eq-eqb one.job other.job (ap (λ (n : Name). n.job) same), (Decides-int_eq one.at other.at).1 (ap (λ (n : Name). n.at) same)) refl in
     let wrong : true ≡ false = sym named ∙ is in cc
 
-behind : (first : SchedRow) (held : List SchedRow) (name : Name) (found : Option SchedRow) → first.name ≢ name → IsLookedUp held name found → IsLookedUp (first ∷ held) name found
-behind first held name None other none = All-cons (λ row. row.name ≢ name) first held other none
-behind first held name (Some row) other is = record {
-  before = first ∷ is.before;
-  after = is.after;
-  parts = ap (λ rows. first ∷ rows) is.parts;
-  named = is.named;
-  first = All-cons (λ row. row.name ≢ name) first is.before other is.first;
-}
-
 pub under_looked_up : (name : Name) (held : List SchedRow) → IsLookedUp held name (under name held)
 under_looked_up name [] = λ k d within. absurd (omega (arith, within))
 under_looked_up name (first ∷ held) = elim (cases_Bool (is_name first.name name)) [
   | inl here ↦ rw here (record { before = []; after = held; parts = refl; named = name_is first.name name here; first = λ k d within. absurd (omega (arith, within)) })
-  | inr other ↦ rw other (behind first held name (under name held) (not_named first.name name other) (under_looked_up name held))
+  | inr other ↦ rw other (IsLookedUp-later first held name (under name held) (not_named first.name name other) (under_looked_up name held))
 ]
 
 pub looked_up_under : (name : Name) (held : List SchedRow) (found : Option SchedRow) → IsLookedUp held name found → under name held ≡ found

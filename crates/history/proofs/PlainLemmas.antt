@@ -286,12 +286,12 @@ step_origin setting event state vote may told has =
     origin_in setting state (AsksFor event) (step setting.self event state) vote (asked_said setting event told)
     (step_plain setting.self event state) may has
 
-plain_call : (asks : Vote → Type 0) (act : Act) (row : SchedRow) → IsPlain asks act → Contains (calls_by act) row → ⊥
+pub plain_call : (asks : Vote → Type 0) (act : Act) (row : SchedRow) → IsPlain asks act → Contains (calls_by act) row → ⊥
 unfolding calls_by
 plain_call asks (Call mine) row plain has = plain
 plain_call asks act row plain has = nothing_in has
 
-plain_calls : (asks : Vote → Type 0) (acts : List Act) (row : SchedRow) → AllPlain asks acts → Contains (calls_of acts) row → ⊥
+pub plain_calls : (asks : Vote → Type 0) (acts : List Act) (row : SchedRow) → AllPlain asks acts → Contains (calls_of acts) row → ⊥
 plain_calls asks [] row plain has = nothing_in has
 plain_calls asks (act ∷ acts) row plain has = elim (Contains-append_cases (calls_by act) (calls_of acts) row has) [
   | inl here ↦ plain_call asks act row plain.0 here

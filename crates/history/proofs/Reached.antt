@@ -32,7 +32,7 @@ use Rattle.step_spec.specs.Step.{Event, IsPlanned, step}
 use Rattle.step_spec.proofs.HeardLemmas.{messages_heard}
 use Rattle.step_spec.proofs.OutLemmas.{calls_in, letters_are}
 use Rattle.agreement.specs.Transition as taken
-use Rattle.agreement.specs.Transition.{AreTransitions, MayTake, acts_of, after_transition, after_transitions, is_silent}
+use Rattle.agreement.specs.Transition.{AreTransitions, MayTake, after_transition, after_transitions, is_silent}
 use Rattle.agreement.specs.World.{CastVote, Learning, World, after_all, doings_of, first_world, with_replica}
 use Rattle.history.specs.Book.{PostedLetter, Row, Standing, acts_at, after_row, answer_to, is_name, under, with_fact, after_stop, durable_after, first_standing, kept_at, learned_in, post, standing_after, turn_of, votes_in, votes_of}
 use Rattle.agreement.specs.Transition.{identity_of}

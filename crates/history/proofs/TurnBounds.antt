@@ -7,7 +7,6 @@ use Rattle.due_set.specs.Table.{Table}
 use Rattle.step_spec.specs.Act.{Act, Restart, Send, after_act}
 use Rattle.step_spec.specs.May.{AllMay, Ending, HasSaid, May, Saying, Setting, TellsWhatWasSaid, WasSaid}
 use Rattle.step_spec.specs.Message.{Message, Prepare, Promise, Accept, Accepted, Nack, Known, AskFrom, Snap, Lead, Mention}
-use Rattle.step_spec.specs.State.{State}
 use Rattle.step_spec.specs.Step.{Event, Campaign, Tick, Hear, Answer, step}
 use Rattle.step_spec.proofs.LineLemmas.{step_may}
 use Rattle.agreement.specs.Transition as taken
@@ -21,12 +20,12 @@ use Rattle.history.proofs.Grows.{AllGrow, HearsWithin, IsHeardWithin, step_grows
 
 -- ---- acts
 
-abbrev setting_with : ℕ → Table → ℕ → Option Event → List Saying → List Ending → Setting
+abbrev pub setting_with : ℕ → Table → ℕ → Option Event → List Saying → List Ending → Setting
 setting_with n table by event said answered =
     record { self = record { me = by; members = n }; table = table; event = event; said = said; answered = answered }
 
 -- acts may be done one after another, whatever more is said and answered meanwhile
-abbrev MayAll : ℕ → Table → ℕ → Option Event → World → List Act → Type 0
+abbrev pub MayAll : ℕ → Table → ℕ → Option Event → World → List Act → Type 0
 MayAll n table by event w acts =
     (said : List Saying) (answered : List Ending) → ((saying : Saying) → Contains w.said saying → Contains said saying)
     → ((ending : Ending) → Contains w.answered ending → Contains answered ending) → AllMay (setting_with n table by event said answered) (w.replicas by) acts

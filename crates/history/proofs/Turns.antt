@@ -1,5 +1,5 @@
 -- Books row by row: a legal book with a row that may follow is legal; and what a step's turn makes of two replicas.
-use Rattle.std.proofs.Common.{◌≡◌, ℕ, zero, suc, ◌<◌, true, Option, Some, None, List, [], ◌∷◌, ◌++◌, take, fold, refl, sym, ap, ◌∙◌, inl, inr, ◌⊎◌, subst, append_assoc, append-nil, lit<}
+use Rattle.std.proofs.Common.{◌≡◌, ℕ, zero, suc, ◌<◌, true, Option, Some, None, List, [], ◌∷◌, ◌++◌, take, fold, refl, sym, ap, ◌∙◌, inl, inr, ◌⊎◌, subst, append_assoc, append-nil, lit<, length}
 use Rattle.std.specs.List.{slice_get}
 use Rattle.std.proofs.lemmas.List.Sums.{fold_push}
 use Rattle.due_set.specs.Table.{Table}
@@ -17,6 +17,7 @@ use Rattle.history.specs.Legal.{IsEventOfCause, IsLegal, IsMade, MayFollow}
 use Rattle.history.specs.declared.turn.CallRow.{CallRow}
 use Rattle.history.specs.declared.turn.Cause.{Cause}
 use Rattle.history.specs.declared.turn.Turn.TheVariants.{Did}
+use Rattle.history.proofs.FrontLemmas.{finds_first, take_front}
 
 -- ---- books
 
@@ -165,3 +166,13 @@ second_turn table one other after posted held waits standing cause event acts le
       (subst (λ calls. IsMade standing.held calls None) (sym none) refl);
   holds = second_did one other after posted held waits standing cause event acts letters there are comes;
 }
+
+pub all_follow : (members : ℕ) (table : Table) (book rows : List Row) → IsLegal members table (book ++ rows)
+    → AllFollow members table (standing_after members (first_rows table) book) rows
+all_follow members table book [] legal = tt
+all_follow members table book (row ∷ rows) legal = (
+  subst (λ front. MayFollow members table (standing_after members (first_rows table) front) row.turn row) (take_front book (row ∷ rows))
+      (legal (length book) row (finds_first book row rows)),
+  subst (λ standing. AllFollow members table standing rows) (fold_push _ (first_standing members (first_rows table)) book row)
+      (all_follow members table (book ++ row ∷ []) rows (subst (λ list. IsLegal members table list) (sym (append_assoc book (row ∷ []) rows)) legal)),
+)

@@ -1,22 +1,20 @@
 -- Rows that have the same turns and come to the same.
 use Rattle.std.proofs.Common.{◌≡◌, ℕ, List, [], ◌∷◌, ◌++◌, length, map, take, append_assoc, refl, sym, subst, ap, ◌∙◌}
-use Rattle.std.specs.Prelude.{⊤, Some, None}
+use Rattle.std.specs.Prelude.{⊤}
 use Rattle.std.proofs.lemmas.List.{map-append}
 use Rattle.std.proofs.Math.Seq.{take-append_seam}
 use Rattle.due_set.specs.Table.{Table}
 use Rattle.launch_machine.specs.Clerk.{first_rows}
 use Rattle.paxos_base.specs.declared.durable.Delta.{Delta}
-use Rattle.step_spec.specs.Folds.{deltas_of}
-use Rattle.step_spec.specs.Step.{Event}
-use Rattle.history.specs.Book.{Row, Standing, acts_at, after_row, standing_after}
+use Rattle.history.specs.Book.{Row, Standing, after_row, standing_after}
 use Rattle.history.specs.Legal.{IsLegal, MayFollow}
 use Rattle.history.specs.declared.turn.Turn.{Turn}
-use Rattle.history.specs.declared.turn.Turn.TheVariants.{Did, Stopped, Restarted, Arrived}
 use Rattle.history.proofs.Agreement.{cut_is_legal}
-use Rattle.history.proofs.Keeping.{one_event, stands_next}
+use Rattle.history.proofs.Keeping.{stands_next}
 use Rattle.script_semantics.specs.Situation.{Situation, after_turn, after_turns, arms_after, bases_kept, changes_in, fates_after, latest_after, mails_after}
 use Rattle.world_law.proofs.Settled.{turns_settle}
 use Rattle.history.proofs.FrontLemmas.{follows_there as may_next}
+use Rattle.script_semantics.proofs.TurnLemmas.{same_changes}
 
 -- from a standing on, the turns are the same, change the same and come to the same
 abbrev pub AreTwins : ℕ → Standing → List Row → List Row → Type 0
@@ -76,17 +74,6 @@ turned_alike members situation (row ∷ a) (other ∷ b) more rest size twins =
       after = next.after ∙ ap (λ (here : Situation). after_turns members here b) (after_twin members situation row other turn stands changes);
       twins = next.twins;
     }
-
--- turns that may follow and are the same change the same, since their causes tell the same
-same_changes : (members : ℕ) (table : Table) (standing : Standing) (turn : Turn) (row other : Row) → MayFollow members table standing turn row
-    → MayFollow members table standing turn other → changes_in members standing turn row.event ≡ changes_in members standing turn other.event
-same_changes members table standing (Did who cause made) row other a b =
-    ap (λ (event : Event). deltas_of (acts_at members standing who event)) (one_event members table standing who cause row.event other.event a.0 b.0)
-same_changes members table standing (Stopped who None kept) row other a b = refl
-same_changes members table standing (Stopped who (Some cause) kept) row other a b =
-    ap (λ (event : Event). deltas_of (acts_at members standing who event)) (one_event members table standing who cause row.event other.event a.0 b.0)
-same_changes members table standing (Restarted who) row other a b = refl
-same_changes members table standing (Arrived number) row other a b = refl
 
 module _ (members : ℕ) (table : Table) where
   abbrev pub after_all : List Row → Standing

@@ -82,7 +82,7 @@ takes_or_not table sound rows (End job at kind) = by_row (slice_get rows job) re
     by_row None none = inr (λ takes. cc (takes.is_row, none))
     by_row (Some row) is_row = end_by_row rows job at row is_row row.open_now row.cursor refl refl
 
-one_applied : (table : Table) → IsSound table → (rows : List JobRow) (entry : Entry) → (middle : List JobRow) × Applies table rows entry middle
+pub one_applied : (table : Table) → IsSound table → (rows : List JobRow) (entry : Entry) → (middle : List JobRow) × Applies table rows entry middle
 one_applied table sound rows entry = elim (takes_or_not table sound rows entry) [
   | inl takes ↦ (rows_after rows entry, inl (takes, refl))
   | inr not ↦ (rows, inr (not, refl))

@@ -38,12 +38,12 @@ use Rattle.history.specs.declared.turn.Turn.TheVariants.{Did, Stopped, Restarted
 use Rattle.history.proofs.Acts.{cast_rows}
 use Rattle.history.proofs.Reached.{heard_event}
 use Rattle.history.proofs.Standings.{call_asked}
-use Rattle.launch_safety.proofs.LogLemmas.{Stands, stands}
 use Rattle.history.proofs.PlainLemmas.{AsksFor, step_calls, votes_of_deltas}
 use Rattle.launch_safety.proofs.CallLemmas.{call_read}
 use Rattle.launch_safety.specs.Asked.{ReadsAt, TicksAt, state_before}
 use Rattle.launch_safety.proofs.Offers.{IsOffered, IsTicked, heard_accept, step_votes}
 use Rattle.due_set.proofs.Rising.{Contains-head as in_first}
+use Rattle.history.proofs.BookLemmas.{Stands, stands}
 
 -- a vote for the entry at the slot is among the votes
 pub record WasCast (votes : List CastVote) (slot : ℕ) (entry : Entry) : Type 0 where

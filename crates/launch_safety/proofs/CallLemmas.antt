@@ -29,7 +29,7 @@ use Rattle.history.specs.declared.turn.Cause.{Cause}
 use Rattle.history.specs.declared.turn.Cause.TheVariants as causes
 use Rattle.history.specs.declared.turn.Turn.TheVariants.{Did}
 use Rattle.history.proofs.Standings.{call_asked}
-use Rattle.history.proofs.PlainLemmas.{AllPlain, AsksFor, IsPlain, RestPlain, step_plain}
+use Rattle.history.proofs.PlainLemmas.{AsksFor, RestPlain, step_plain, plain_calls}
 use Rattle.due_set.proofs.Rising.{Contains-head as in_first, Contains-cases as cons_cases}
 
 -- the event is a tick, and the call has its reading
@@ -92,18 +92,6 @@ call_of_act : (act : Act) (call : SchedRow) → Contains (calls_by act) call →
 unfolding calls_by
 call_of_act (Call mine) call has = elim (cons_cases mine [] call has) [ inl same ↦ ap Call same | inr none ↦ nothing_in none ]
 call_of_act act call has = nothing_in has
-
-plain_call : (asks : Vote → Type 0) (act : Act) (call : SchedRow) → IsPlain asks act → Contains (calls_by act) call → ⊥
-unfolding calls_by
-plain_call asks (Call mine) call plain has = plain
-plain_call asks act call plain has = nothing_in has
-
-plain_calls : (asks : Vote → Type 0) (acts : List Act) (call : SchedRow) → AllPlain asks acts → Contains (calls_of acts) call → ⊥
-plain_calls asks [] call plain has = nothing_in has
-plain_calls asks (act ∷ acts) call plain has = elim (Contains-append_cases (calls_by act) (calls_of acts) call has) [
-  | inl here ↦ plain_call asks act call plain.0 here
-  | inr later ↦ plain_calls asks acts call plain.1 later
-]
 
 -- the call of a step is its first act
 step_call : (self : Identity) (event : Event) (state : State) (call : SchedRow) → Contains (calls_of (step self event state)) call → IsTickAt call event

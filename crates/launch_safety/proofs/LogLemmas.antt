@@ -5,35 +5,15 @@ use Rattle.std.proofs.lemmas.List.{take-append-drop}
 use Rattle.paxos_base.specs.declared.entry.Entry.{Entry}
 use Rattle.due_set.specs.Table.{Table}
 use Rattle.launch_machine.specs.Clerk.{first_rows}
-use Rattle.step_spec.specs.Hear.{known_from}
-use Rattle.step_spec.specs.Message.{Known}
 use Rattle.step_spec.specs.State.{State}
 use Rattle.agreement.specs.Agree.{IsChosen, vote_for}
 use Rattle.agreement.specs.Log.{AreChosen, IsLog}
-use Rattle.agreement.specs.Transition.{after_transitions}
-use Rattle.agreement.specs.World.{CastVote, World, first_world}
+use Rattle.agreement.specs.World.{CastVote}
 use Rattle.agreement.proofs.LogLemmas.{chosen_front, chosen_short}
-use Rattle.agreement.proofs.Transitions.{IsFollowed, first_followed, transitions_followed}
-use Rattle.history.specs.Book.{Row, learned_in, standing_after, votes_in}
+use Rattle.history.specs.Book.{Row, standing_after, votes_in}
 use Rattle.history.specs.Legal.{IsLegal}
-use Rattle.history.proofs.Reached.{Matches, reaches}
 use Rattle.agreement.proofs.Tables.{known_chosen, chosen_append}
-use Rattle.due_set.proofs.Rising.{Contains-head as in_first, Contains-tail as in_rest}
-
--- a world that comes to what a legal book comes to
-pub record Stands (n : ℕ) (table : Table) (book : List Row) : Type 0 where
-  pub w : World
-  pub followed : IsFollowed n table (first_rows table) w
-  pub matches : Matches n (length table.jobs) (standing_after n (first_rows table) book) (votes_in book) (learned_in book) w
-
-pub stands : (n : ℕ) (table : Table) (book : List Row) → n ≤ 7 → IsLegal n table book → Stands n table book
-stands n table book few legal =
-    let to = reaches n table book legal in
-    record {
-      w = after_transitions n to.turns (first_world (first_rows table));
-      followed = transitions_followed n table (first_rows table) (first_world (first_rows table)) to.turns few (first_followed n table (first_rows table)) to.are;
-      matches = to.matches;
-    }
+use Rattle.history.proofs.BookLemmas.{stands}
 
 -- votes are among others
 abbrev pub AreAmong : List CastVote → List CastVote → Type 0

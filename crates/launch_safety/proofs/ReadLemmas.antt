@@ -1,9 +1,8 @@
 -- What is held was called at a reading of the book's clocks, and these are minutes of the window.
-use Rattle.std.proofs.Common.{◌≡◌, ℕ, Option, Some, None, List, [], ◌∷◌, ◌++◌, length, take, ℤ, pos, ◌-ℤ◌, ◌≤ℤ◌, refl, sym, ap, inl, inr, subst, arith, append_assoc}
-use Rattle.std.specs.List.{Contains, slice_get}
+use Rattle.std.proofs.Common.{◌≡◌, ℕ, Option, Some, None, List, [], ◌∷◌, ◌++◌, ℤ, pos, ◌-ℤ◌, ◌≤ℤ◌, sym, ap, inl, inr, subst, arith}
+use Rattle.std.specs.List.{Contains}
 use Rattle.std.proofs.lemmas.Int.{ints}
 use Rattle.std.proofs.lemmas.List.Elements.{All-cons, All-head, All-nil, All-tail, Contains-append_cases, Contains-append_left}
-use Rattle.std.proofs.lemmas.List.Sums.{fold_push}
 use Rattle.due_set.specs.Table.{Table}
 use Rattle.cluster_sched.specs.Fates.{added, call}
 use Rattle.cluster_sched.specs.declared.fate.Fate.{Fate}
@@ -20,12 +19,10 @@ use Rattle.history.specs.declared.turn.Cause.{Cause}
 use Rattle.history.specs.declared.turn.Cause.TheVariants.{Campaign, Tick, Hear, Answer}
 use Rattle.history.specs.declared.turn.Turn.{Turn}
 use Rattle.history.specs.declared.turn.Turn.TheVariants.{Did, Stopped, Restarted, Arrived}
-use Rattle.history.proofs.Agreement.{cut_is_legal}
-use Rattle.history.proofs.Turns.{AllFollow, after_rows}
+use Rattle.history.proofs.Turns.{AllFollow, after_rows, all_follow}
 use Rattle.launch_safety.specs.Readings.{AreTurnsBy, IsTurnBy, ReadsBy}
 use Rattle.launch_safety.proofs.CallLemmas.{call_read}
 use Rattle.due_set.proofs.Rising.{Contains-cases as cons_cases}
-use Rattle.history.proofs.FrontLemmas.{finds_first, take_front}
 
 -- ---- rows that join
 
@@ -105,19 +102,10 @@ turns_by n table at standing (row ∷ rows) (may, all) by calls =
     turns_by n table at (after_row n standing row.turn row.event row.letters) rows all (All-tail (λ (r : Row). IsTurnBy at r.turn) row rows by)
     (turn_by n table at standing row.turn row may (All-head (λ (r : Row). IsTurnBy at r.turn) row rows by) calls)
 
-follow_on : (n : ℕ) (table : Table) (book rows : List Row) → IsLegal n table (book ++ rows) → AllFollow n table (standing_after n (first_rows table) book) rows
-follow_on n table book [] legal = tt
-follow_on n table book (row ∷ rows) legal = (
-  subst (λ front. MayFollow n table (standing_after n (first_rows table) front) row.turn row) (take_front book (row ∷ rows))
-      (legal (length book) row (finds_first book row rows)),
-  subst (λ standing. AllFollow n table standing rows) (fold_push _ (first_standing n (first_rows table)) book row)
-      (follow_on n table (book ++ row ∷ []) rows (subst (λ list. IsLegal n table list) (sym (append_assoc book (row ∷ []) rows)) legal)),
-)
-
 -- each row that is held was called at the instant or before, where no clock reading is later
 pub held_by : (n : ℕ) (table : Table) (at : ℤ) (book : List Row) (row : SchedRow) → IsLegal n table book → AreTurnsBy at book → Contains (standing_after n (first_rows table) book).held row → row.now.0 ≤ℤ at
 held_by n table at book row legal by has =
-    (turns_by n table at (first_standing n (first_rows table)) book (follow_on n table [] book legal) by
+    (turns_by n table at (first_standing n (first_rows table)) book (all_follow n table [] book legal) by
     (record { held = λ other none. nothing_in none; late = λ other none. nothing_in none })).held row has
 
 arriving_still : (held : List SchedRow) (call : Option SchedRow) (row : SchedRow) → Contains held row → Contains (arriving call held) row
@@ -161,4 +149,4 @@ turns_inside n table standing (row ∷ rows) (may, all) =
 
 -- no clock of a legal book reads an instant past the window's last minute
 pub book_inside : (n : ℕ) (table : Table) (book : List Row) → IsLegal n table book → AreTurnsBy (table.window.until.0 -ℤ pos 1) book
-book_inside n table book legal = turns_inside n table (first_standing n (first_rows table)) book (follow_on n table [] book legal)
+book_inside n table book legal = turns_inside n table (first_standing n (first_rows table)) book (all_follow n table [] book legal)

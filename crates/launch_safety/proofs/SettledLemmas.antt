@@ -1,12 +1,10 @@
 -- What a settled log has started and ended.
-use Rattle.std.proofs.Common.{◌≡◌, ℕ, ◌<◌, inl, inr, List, [], ◌∷◌, length, get_or, Option, None, Some, ℤ, ◌≤ℤ◌, refl, sym, ap, ◌∙◌, subst, arith}
+use Rattle.std.proofs.Common.{◌≡◌, ℕ, ◌<◌, inl, List, length, Option, None, Some, ℤ, ◌≤ℤ◌, refl, sym, ◌∙◌, subst, arith}
 use Rattle.std.specs.Prelude.{slice_get}
-use Rattle.std.proofs.Math.ListN.{length-set}
 use Rattle.std.proofs.lemmas.Int.{ints, by_lt_z}
 use Rattle.std.proofs.lemmas.Option.{slice_get_within}
 use Rattle.std.proofs.lemmas.List.FromFn.{length-map-range_with_len}
 use Rattle.paxos_base.specs.declared.entry.Entry.{Entry}
-use Rattle.paxos_base.specs.declared.entry.Entry.TheVariants.{Noop, Start, End}
 use Rattle.paxos_base.specs.declared.entry.Kind.{Kind}
 use Rattle.paxos_base.specs.declared.rows.JobRow.{JobRow}
 use Rattle.due_set.specs.Calls.{HasCome}
@@ -14,25 +12,12 @@ use Rattle.due_set.specs.Table.{Table, IsAfter, IsJobDue}
 use Rattle.due_set.specs.declared.job.JobKind.{JobKind}
 use Rattle.due_set.proofs.ExistLemmas.{next_up_to}
 use Rattle.paxos_base.specs.Rows.{fresh_row}
-use Rattle.launch_machine.specs.Clerk.{Applies, AppliesAll, IsClerkOf, first_rows, opened_row, closed_row}
+use Rattle.launch_machine.specs.Clerk.{IsClerkOf, first_rows}
 use Rattle.due_set.proofs.SoundLemmas.{at_place}
 use Rattle.launch_safety.specs.Fits.{HasStart, HasEnd}
 use Rattle.launch_safety.specs.Settled.{IsSettled}
 use Rattle.launch_safety.proofs.CoverLemmas.{IsCovered, IsOver, clerk_covers}
-
--- an entry leaves as many rows
-pub Applies-length : (table : Table) (old : List JobRow) (entry : Entry) (new : List JobRow) → Applies table old entry new → length new ≡ length old
-Applies-length table old entry new (inr (not, e)) = ap length e
-Applies-length table old Noop new (inl (takes, e)) = ap length e
-Applies-length table old (Start job at now) new (inl (takes, e)) =
-    ap length e ∙ length-set old job (opened_row at now (get_or old job (fresh_row job)))
-Applies-length table old (End job at kind) new (inl (takes, e)) =
-    ap length e ∙ length-set old job (closed_row at kind (get_or old job (fresh_row job)))
-
-pub AppliesAll-length : (table : Table) (old : List JobRow) (entries : List Entry) (new : List JobRow) → AppliesAll table old entries new → length new ≡ length old
-AppliesAll-length table old [] new e = ap length e
-AppliesAll-length table old (entry ∷ entries) new (middle, step, rest) =
-    AppliesAll-length table middle entries new rest ∙ Applies-length table old entry middle step
+use Rattle.history.proofs.Heard.{AppliesAll-length}
 
 -- each job of the table has a row
 pub row_of : (table : Table) (log : List Entry) (rows : List JobRow) (job : ℕ) → IsClerkOf table log rows → job < length table.jobs

@@ -40,9 +40,9 @@ use Rattle.history.proofs.Agreement.{agrees}
 use Rattle.history.proofs.Reached.{Matches}
 use Rattle.launch_safety.specs.Fitting.{TakesEffectAt}
 use Rattle.launch_safety.proofs.Invariant.{SaysHeld, Fitting}
-use Rattle.launch_safety.proofs.LogLemmas.{Stands, stands}
 use Rattle.history.proofs.PlainLemmas.{step_calls, step_origin}
 use Rattle.due_set.proofs.Rising.{Contains-head as in_first, Contains-cases as cons_cases}
+use Rattle.history.proofs.BookLemmas.{Stands, stands}
 
 -- an open launch may be ended
 open_takes : (rows : List JobRow) (job : ℕ) (at : ℤ) (found : Option JobRow) → slice_get rows job ≡ found → is_row_open at found ≡ true → TakesEnd rows job at

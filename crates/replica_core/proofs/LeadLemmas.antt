@@ -249,10 +249,6 @@ compacts core old new slot rows idle none at takes =
     rw (← at)
     (drafted-rebase (fixed_of core) old new slot rows None takes none (omega (arith, prefix, at)) ∙ ap (done (Rebase slot rows ∷ [])) idle)
 
-pub tick-long : (self : Identity) (now : ℤ) (rows : List JobRow) (intent : Intent) (state : State) → is_long state ≡ true → tick self now rows intent state ≡ Rebase (prefix_of state) rows ∷ []
-unfolding tick
-tick-long self now rows intent state long = rw long refl
-
 pub tick-waits : (self : Identity) (now : ℤ) (rows : List JobRow) (intent : Intent) (state : State) (ballot : ℕ) (best : List Vote) (flight : Flight) → is_long state ≡ false → state.term ≡ Leader ballot best (Some flight)
     → tick self now rows intent state ≡ wait ballot flight
 unfolding tick

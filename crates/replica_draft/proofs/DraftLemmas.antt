@@ -28,6 +28,7 @@ use Rattle.replica_draft.specs.declared.draft.Sent.{Sent}
 use Rattle.replica_draft.specs.declared.change.Change.{Change}
 use Rattle.replica_draft.specs.declared.change.Change.TheVariants as change
 use Rattle.replica_draft.specs.declared.draft.Draft.{Draft}
+use Rattle.step_spec.proofs.Lists.{after_acts-append}
 
 -- a term hears of a ballot, whatever its votes
 pub with_best-after_ballot : (best : List Vote) (ballot : ℕ) (term : Term) → with_best best (after_ballot ballot term) ≡ after_ballot ballot (with_best best term)
@@ -156,10 +157,6 @@ unfolding after_act deltas_by learnt_by said_by calls_by
 drafted-send kept old new whom message only sends =
     rw (only.seen, only.term, only.best, only.change, only.learnt, only.call, sends)
     (rw (append-nil (drafted kept old).deltas, append-nil (drafted kept old).learnt, append-nil (drafted kept old).calls, append-nil (said_by (Send whom message))) refl)
-
-after_acts-append : (before after : List Act) (state : State) → after_acts (before ++ after) state ≡ after_acts after (after_acts before state)
-after_acts-append [] after state = refl
-after_acts-append (act ∷ before) after state = after_acts-append before after (after_act act state)
 
 -- a step goes on where some acts end
 pub done-append : (before after : List Act) (desk : Desk) → done (before ++ after) desk ≡ done after (done before desk)

@@ -23,6 +23,7 @@ use Rattle.replica_draft.specs.declared.draft.Sent.{Sent}
 use Rattle.replica_draft.specs.Letters.{packets_to, AllKeep, Carry, KeepGroups, HasCursor, HaveCursors, IsInPackets, AreSpoken}
 use Rattle.replica_draft.proofs.GroupLemmas.{told_to}
 use Rattle.replica_draft.proofs.LetterLemmas.{packets_to-said_of}
+use Rattle.step_spec.proofs.Lists.{AllZip-append}
 use Rattle.cron_io.proofs.ListLemmas.{all_push, range_more}
 
 -- ---- the packets to one replica
@@ -161,12 +162,6 @@ letters_more me member acts =
     ∙ flat_map-append (letter_for me acts) (range_with_len 0 member) (member ∷ [])
     ∙ ap (λ (letters : List Addressed). flat_map (letter_for me acts) (range_with_len 0 member) ++ letters) (append-nil (letter_for me acts member))
 
-all_zip-append : {A B : Type 0} (R : A → B → Type 0) (xs ys : List A) (us vs : List B) → AllZip R xs us → AllZip R ys vs → AllZip R (xs ++ ys) (us ++ vs)
-all_zip-append R [] ys [] vs first rest = rest
-all_zip-append R [] ys (u ∷ us) vs first rest = absurd first
-all_zip-append R (x ∷ xs) ys [] vs first rest = absurd first
-all_zip-append R (x ∷ xs) ys (u ∷ us) vs first rest = (first.0, all_zip-append R xs ys us vs first.1 rest)
-
 one_letter : (me to : ℕ) (messages : List Message) (letter : OutLetter) → flat_map packets_of messages ≢ [] → letter.to ≡ to → Spells 7 me (flat_map packets_of messages) letter.bytes → AllZip (IsSpelled 7 me) (letter_of to messages) (letter ∷ [])
 one_letter me to [] letter some is spells = absurd (some refl)
 one_letter me to (message ∷ messages) letter some is spells = (record { to = is; spells = spells }, tt)
@@ -208,7 +203,7 @@ Carry-next me member said packets letters letter are to spells carry acts is spo
     let told : packets ≡ told_to me member acts = are ∙ told_so me member said acts is in
     let spelled = subst (λ (packets : List Packet). Spells 7 me packets letter.bytes) told spells in
     subst (λ (all : List Addressed). AllZip (IsSpelled 7 me) all (letters ++ letter ∷ [])) (sym (letters_more me member acts))
-    (all_zip-append (IsSpelled 7 me) (letters_of (record { me = me; members = member }) acts) (letter_of member (sent_to me member acts)) letters (letter ∷ [])
+    (AllZip-append (IsSpelled 7 me) (letters_of (record { me = me; members = member }) acts) (letter_of member (sent_to me member acts)) letters (letter ∷ [])
     (carry acts is spoken)
     (one_letter me member (sent_to me member acts) letter spelled.letter.some to spelled))
 
@@ -218,6 +213,6 @@ Carry-skip me member said packets letters are none carry acts is spoken =
     let told : packets ≡ told_to me member acts = are ∙ told_so me member said acts is in
     subst (λ (all : List Addressed). AllZip (IsSpelled 7 me) all letters) (sym (letters_more me member acts))
     (subst (λ (rest : List OutLetter). AllZip (IsSpelled 7 me) (letters_of (record { me = me; members = member }) acts ++ letter_of member (sent_to me member acts)) rest) (append-nil letters)
-    (all_zip-append (IsSpelled 7 me) (letters_of (record { me = me; members = member }) acts) (letter_of member (sent_to me member acts)) letters []
+    (AllZip-append (IsSpelled 7 me) (letters_of (record { me = me; members = member }) acts) (letter_of member (sent_to me member acts)) letters []
     (carry acts is spoken)
     (no_letter me member (sent_to me member acts) (all_told me member acts spoken) (sym told ∙ none))))

@@ -1,7 +1,7 @@
 -- A node's disk stays clean through its calls, and the numbers of its arm say whether a change is kept.
 use Rattle.std.proofs.Common.{◌≡◌, ◌⊎◌, ℕ, ◌<◌, ◌≤◌, ◌%◌, ◌-◌, ◌/◌, Option, None, Some, List, Ok, Err, length, map, refl, sym, ◌∙◌, subst, inl, inr, arith}
 use Rattle.std.specs.Prelude.{IsSome, IsSomeAnd}
-use Rattle.std.proofs.lemmas.Bool.{cases_order, eq-eqb, ne_eqb}
+use Rattle.std.proofs.lemmas.Bool.{cases_order, eq-eqb, ne_eqb, cases_lt}
 use Rattle.std.proofs.lemmas.Nat.{mod_below}
 use Rattle.disk_model.specs.declared.armed.Arm.{Arm}
 use Rattle.disk_model.specs.declared.fault.DiskFault.TheVariants as Disk
@@ -41,13 +41,6 @@ use Rattle.replica_node.specs.declared.node.Node.{Node as ANode}
 
 -- ---- a save that was stopped
 
-below_or_from : (left few : ℕ) → (left < few) ⊎ (few ≤ left)
-below_or_from left few =
-    elim (cases_order left few) [
-      | inl same ↦ inr (omega (arith, same))
-      | inr apart ↦ elim apart [ inl below ↦ inl below | inr above ↦ inr (omega (arith, above)) ]
-    ]
-
 not_kept : (jobs few : ℕ) (P : ℕ → Type 0) (area : FileNo) (kept : Durable) (arm : Arm) (image : Image) → (arm.left < few → StandsIn jobs area kept image) → (few ≤ arm.left → (Shows P arm.image → ⊥) → StandsIn jobs area kept image)
     → ((few ≤ arm.left) × Shows P arm.image → ⊥) → (arm.left < few) ⊎ (few ≤ arm.left) → StandsIn jobs area kept image
 not_kept jobs few P area kept arm image early lost none (inl less) = early less
@@ -66,7 +59,7 @@ module _ (jobs : ℕ) (area : FileNo) (kept : Durable) (own : Option ℕ) (arm :
 
   record_by_arm : (change : Delta) (item : Record) → StopsInSave jobs area kept own change arm old new → delta_record change ≡ Some item → ((2 ≤ arm.left) × Shows (λ byte. byte ≡ 1) arm.image → ⊥) → StandsIn jobs area kept (image_left new)
   record_by_arm change item save is none =
-      not_kept jobs 2 (λ byte. byte ≡ 1) area kept arm (image_left new) (record_early jobs area kept own change item arm old new save is) (record_lost jobs area kept own change item arm old new save is) none (below_or_from arm.left 2)
+      not_kept jobs 2 (λ byte. byte ≡ 1) area kept arm (image_left new) (record_early jobs area kept own change item arm old new save is) (record_lost jobs area kept own change item arm old new save is) none (cases_lt arm.left 2)
 
   pub kept_by_arm : (change : Delta) → StopsInSave jobs area kept own change arm old new → ((item : Record) → delta_record change ≡ Some item → IsRecord (record_bytes item) item)
       → ((slot : ℕ) (rows : List JobRow) → change ≡ Base slot rows → AreRecords (map record_bytes (base_records kept own slot rows)) (base_records kept own slot rows)) → IsKeptByArm jobs area kept change arm (image_left new)
@@ -81,7 +74,7 @@ module _ (jobs : ℕ) (area : FileNo) (kept : Durable) (own : Option ℕ) (arm :
       (record_by_arm (Voted vote) (Item.Voted vote) save refl)
   kept_by_arm (Base slot rows) save spelled base =
       by_arm (Base slot rows) (λ keeps. base_kept jobs area kept own slot rows arm old new save (base slot rows refl) keeps.0 keeps.1)
-      (λ none. not_kept jobs 3 (λ byte. selected_by byte ≡ other_area area) area kept arm (image_left new) (base_early jobs area kept own slot rows arm old new save) (base_lost jobs area kept own slot rows arm old new save) none (below_or_from arm.left 3))
+      (λ none. not_kept jobs 3 (λ byte. selected_by byte ≡ other_area area) area kept arm (image_left new) (base_early jobs area kept own slot rows arm old new save) (base_lost jobs area kept own slot rows arm old new save) none (cases_lt arm.left 3))
 
 -- ---- between two calls
 

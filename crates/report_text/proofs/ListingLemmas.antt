@@ -8,7 +8,7 @@ use Rattle.std.proofs.lemmas.List.Kept.{AllPairs-filter}
 use Rattle.std.proofs.lemmas.List.Sorted.{IsPermutation-sym, Contains-permutation}
 use Rattle.due_set.specs.Due.{IsRising}
 use Rattle.due_set.specs.Table.{Table, IsJobDue, IsJobDueList, IsRunByPeriod}
-use Rattle.due_set.proofs.Rising.{Contains-head, Contains-tail, Contains-cases, Contains-none, Contains-map}
+use Rattle.due_set.proofs.Rising.{Contains-map}
 use Rattle.paxos_base.specs.declared.entry.Kind.TheVariants.{Launch}
 use Rattle.cluster_sched.specs.Held.{AreNamedOnce}
 use Rattle.cluster_sched.specs.declared.row.SchedRow.{SchedRow}
@@ -18,7 +18,7 @@ use Rattle.launch_safety.proofs.FitLemmas.{launched_due, name_is as same_name}
 use Rattle.report_text.specs.Report.{IsInOrder, IsNotAfter}
 use Rattle.report_text.specs.Listing.{instants_of}
 use Rattle.report_text.proofs.OneOrder.{AreNamedOnce-permutation}
-use Rattle.step_spec.proofs.ListLemmas.{from_filter as Contains-from_filter, in_filter as Contains-filter}
+use Rattle.step_spec.proofs.ListLemmas.{from_filter as Contains-from_filter, in_filter as Contains-filter, from_map}
 
 -- where both are of one job, the first is earlier
 abbrev IsBefore : SchedRow → SchedRow → Type 0
@@ -56,19 +56,6 @@ rising job (row ∷ rows) of_job pairs =
     behind : All (λ other. row.name.at <ℤ other.name.at) rows
     behind k d within = pairs 0 (suc k) d (omega arith) (omega arith) (first ∙ sym (eqb-true _ _ (rest k d within)))
 
--- a member of a map, and a member that it is the image of
-record IsMapped {X Y : Type 0} (f : X → Y) (xs : List X) (y : Y) : Type 0 where
-  origin : X
-  among : Contains xs origin
-  is : f origin ≡ y
-
-mapped : {X Y : Type 0} (f : X → Y) (xs : List X) (y : Y) → Contains (map f xs) y → IsMapped f xs y
-mapped f [] y h = absurd (Contains-none y h)
-mapped f (first ∷ xs) y h = elim (Contains-cases (f first) (map f xs) y h) [
-  | inl e ↦ record { origin = first; among = Contains-head first xs; is = e }
-  | inr more ↦ (let rest = mapped f xs y more in record { origin = rest.origin; among = Contains-tail first xs rest.origin rest.among; is = rest.is })
-]
-
 -- a row that is held, of an instant or a date that is listed
 record IsListedRow (held : List SchedRow) (job : ℕ) (at : ℤ) : Type 0 where
   row : SchedRow
@@ -78,7 +65,7 @@ record IsListedRow (held : List SchedRow) (job : ℕ) (at : ℤ) : Type 0 where
 
 listed_row : (held rows : List SchedRow) (job : ℕ) (at : ℤ) → IsInOrder held rows → Contains (instants_of rows job) at → IsListedRow held job at
 listed_row held rows job at x h =
-    let made = mapped at_of (filter (is_of job) rows) at h in
+    let made = from_map at_of (filter (is_of job) rows) at h in
     record {
       row = made.origin;
       among = Contains-permutation rows held made.origin (IsPermutation-sym held rows x.same) (Contains-from_filter (is_of job) rows made.origin made.among);

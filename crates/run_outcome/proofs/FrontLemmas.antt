@@ -17,11 +17,11 @@ use Rattle.agreement.proofs.Tables.{follows, short_of}
 use Rattle.history.specs.Book.{Row, Standing, after_row, first_standing, standing_after, votes_in}
 use Rattle.history.specs.Legal.{IsLegal}
 use Rattle.history.proofs.Agreement.{book_log}
-use Rattle.launch_safety.proofs.LogLemmas.{stands}
 use Rattle.launch_safety.specs.Fitting.{held_in}
 use Rattle.launch_safety.proofs.LogLemmas.{log_goes_on}
 use Rattle.launch_safety.specs.Readings.{AreTurnsBy, IsTurnBy}
 use Rattle.launch_safety.proofs.ReadLemmas.{stays_held}
+use Rattle.history.proofs.BookLemmas.{stands}
 
 -- the log of a book goes on from that of a front
 pub record FrontLog (n : ℕ) (book : List Row) (log : List Entry) : Type 0 where

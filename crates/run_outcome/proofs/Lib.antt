@@ -68,7 +68,6 @@ pub mod OpenedDates
 pub mod PartLemmas
 pub mod Passed
 pub mod QuietDrainLemmas
-pub mod RowLemmas
 pub mod SaidLemmas
 pub mod ScriptLemmas
 pub mod SettledLemmas

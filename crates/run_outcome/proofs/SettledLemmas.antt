@@ -26,7 +26,6 @@ use Rattle.agreement.proofs.Tables.{follows}
 use Rattle.history.specs.Book.{Row, Standing, after_row, first_standing, standing_after, votes_in}
 use Rattle.history.specs.Legal.{IsLegal}
 use Rattle.history.proofs.Agreement.{book_log}
-use Rattle.launch_safety.proofs.LogLemmas.{stands}
 use Rattle.launch_safety.specs.Fitting.{held_in}
 use Rattle.launch_safety.proofs.Whole.{whole}
 use Rattle.script_semantics.specs.Settling.{AsksNothing}
@@ -34,6 +33,7 @@ use Rattle.run_outcome.specs.Readings.{IsGraceLong}
 use Rattle.launch_safety.specs.Readings.{AreTurnsBy}
 use Rattle.launch_safety.proofs.ReadLemmas.{book_inside, held_by, stays_held}
 use Rattle.history.proofs.FrontLemmas.{front_legal}
+use Rattle.history.proofs.BookLemmas.{stands}
 
 -- the launch table of a replica is that of a front of the log
 table_of : (n : ℕ) (table : Table) (book : List Row) (log : List Entry) (who : ℕ) (at : ℤ) → n ≤ 7 → IsLegal n table book → IsLog n (votes_in book) log

@@ -36,7 +36,8 @@ use Rattle.history.specs.declared.turn.Turn.TheVariants.{Did}
 use Rattle.history.proofs.Turns.{legal_push}
 use Rattle.launch_safety.proofs.Alone.{leading, vote}
 use Rattle.script_semantics.specs.Situation.{Does, Situation, after_turn, delivered, fates_after, letters_for, mails_after}
-use Rattle.run_outcome.proofs.SomeTable.{brief, call_asked, end_entry, idle, in_window, is_open_then, minute, opened, rest_asked, start_asked, start_entry}
+use Rattle.run_outcome.proofs.SomeTable.{brief, call_asked, end_entry, idle, in_window, minute, opened, rest_asked, start_asked, start_entry}
+use Rattle.history.proofs.Asks.{is_open_then}
 
 -- the situation is that of a legal book: what the replica has, what is held, and the answer that waits
 pub record Has (book : List Row) (situation : Situation) (state : State) (held : List SchedRow) (waits : Option SchedRow) : Type 0 where

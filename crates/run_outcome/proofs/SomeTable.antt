@@ -1,23 +1,13 @@
 -- A table of one job that is due at each of two minutes, and what its launch table asks for, launch after launch.
-use Rattle.std.proofs.Common.{◌≡◌, ℕ, zero, suc, ◌+◌, ◌-◌, ◌<◌, ◌^◌, ℤ, pos, negsuc, true, false, Option, Some, None, [], ◌∷◌, refl, sym, ap, ◌∙◌, arith, subst, lit<, ◌↔◌, inl, inr, unsigned_abs}
-use Rattle.std.specs.Int.{int_rem_euclid}
-use Rattle.std.proofs.lemmas.Bool.Decides.{Decides-int_eq}
+use Rattle.std.proofs.Common.{◌≡◌, ℕ, zero, suc, ◌+◌, ◌-◌, ◌<◌, ℤ, pos, Option, Some, None, [], ◌∷◌, refl, sym, ap, ◌∙◌, arith, subst, lit<, ◌↔◌, inl, inr}
 use Rattle.std.proofs.lemmas.Int.{ints}
 use Rattle.std.proofs.lemmas.List.Elements.{All-cons, All-nil}
-use Rattle.cron_fields.specs.FieldSet.{Has}
-use Rattle.cron_fields.specs.declared.field.FieldSet.{FieldSet}
-use Rattle.cron_fields.specs.declared.field.Fields.{Fields}
-use Rattle.cron_fields.proofs.BitLemmas.{IsBitSet-mask}
-use Rattle.zone_minutes.specs.Civil.{civil_at, day_number, weekday_of, IsCalendarMinute}
 use Rattle.zone_minutes.specs.Window.{IsInWindow}
-use Rattle.zone_minutes.specs.Zone.{FixedOffset, IsReadable, Zone}
+use Rattle.zone_minutes.specs.Zone.{Zone}
 use Rattle.zone_minutes.specs.declared.minute.Window.{Window}
-use Rattle.zone_minutes.proofs.CalendarLemmas.{IsWithinClock, IsWithinClock-at}
-use Rattle.zone_minutes.proofs.ZoneLemmas.{IsReadable-fixed, local_of-fixed}
+use Rattle.zone_minutes.proofs.ZoneLemmas.{local_of-fixed}
 use Rattle.due_set.specs.Calls.{IsOnTime}
-use Rattle.due_set.specs.Due.{Matches}
 use Rattle.due_set.specs.Table.{IsBuiltFor, IsJobDue, IsJobIn, IsNextDue, IsSound, Job, Table, utc_over}
-use Rattle.due_set.specs.declared.job.JobKind.TheVariants.{Crontab}
 use Rattle.paxos_base.specs.declared.entry.Entry.{Entry}
 use Rattle.paxos_base.specs.declared.entry.Entry.TheVariants as entry
 use Rattle.paxos_base.specs.declared.entry.Kind.TheVariants.{Launch}
@@ -28,18 +18,9 @@ use Rattle.launch_machine.specs.Intent.{NoCall, NoStart}
 use Rattle.launch_machine.specs.declared.machine.Intent.TheVariants as intent
 use Rattle.launch_safety.proofs.CoverLemmas.{due_never_opens}
 use Rattle.step_spec.specs.Propose.{is_open}
-use Rattle.history.proofs.Asks.{utc, has_every, small_weekday, nothing_below}
+use Rattle.history.proofs.Asks.{utc, nothing_below, each_minute, only_job, matches_all}
 
 -- ---- the table
-
-abbrev every : FieldSet
-every = record { bits = 2 ^ 64 - 2 ^ 0; star = true; hashed = false }
-
-abbrev each_minute : Fields
-each_minute = record { minute = every; hour = every; month_day = every; month = every; week_day = every }
-
-abbrev only_job : Job
-only_job = record { name = []; zone = 0; kind = Crontab each_minute }
 
 abbrev two_minutes : Window
 two_minutes = record { from = record { 0 = pos 525_600 }; until = record { 0 = pos 525_602 } }
@@ -68,17 +49,6 @@ sound = record {
 }
 
 -- ---- when the job is due
-
-matches_all : (local : ℤ) → IsCalendarMinute local → Matches each_minute local
-matches_all local inside =
-    let clock : IsWithinClock (civil_at local) = IsWithinClock-at local (civil_at local) inside refl in
-    record {
-      date = record {
-        month_in = has_every (civil_at local).month (omega (arith, clock.month));
-        day_in = (has_every (civil_at local).day (omega (arith, clock.day)), has_every (weekday_of (day_number local)) (small_weekday _));
-      };
-      time = record { hour_in = has_every (civil_at local).hour (omega (arith, clock.hour)); minute_in = has_every (civil_at local).minute (omega (arith, clock.minute)) };
-    }
 
 job_in : IsJobIn brief 0 only_job utc.0
 job_in = record { is_job = refl; source = only_zone; is_zone = refl; read = utc.1 }
@@ -169,7 +139,3 @@ no_start k (suc job) at takes = let none : None ≡ Some takes.row = takes.is_ro
 
 pub rest_asked : (k : ℕ) → IsIntent brief (idle (suc k) ∷ []) (minute k) intent.Rest
 rest_asked k = (no_call (suc k) (minute k), no_start k)
-
--- the launch is open until it is ended
-pub is_open_then : (k : ℕ) → is_open 0 (minute k) (opened k ∷ []) ≡ true
-is_open_then k = (Decides-int_eq (minute k) (minute k)).1 refl

@@ -6,8 +6,8 @@ use Rattle.std.proofs.lemmas.Bool.{and_parts, eqb-true}
 use Rattle.std.proofs.lemmas.Option.{slice_get_within}
 use Rattle.history.specs.Book.{PostedLetter}
 use Rattle.script_semantics.specs.Situation.{Situation, is_cut, letters_for, reaches}
-use Rattle.script_semantics.proofs.ListLemmas.{from_range, in_range_from, passes_filter}
-use Rattle.step_spec.proofs.ListLemmas.{from_filter, in_filter}
+use Rattle.script_semantics.proofs.ListLemmas.{from_range, passes_filter}
+use Rattle.step_spec.proofs.ListLemmas.{from_filter, in_filter, in_range_from}
 
 pub sent : (situation : Situation) (first who number : ℕ) → Contains (letters_for situation first who) number
     → (first ≤ number) × (number < length situation.standing.posted)

@@ -1,22 +1,16 @@
 -- What lists that were mapped, filtered or joined contain.
-use Rattle.std.proofs.Common.{◌≡◌, ℕ, ◌+◌, ◌-◌, ◌<◌, ◌≤◌, Bool, true, false, cond, List, [], ◌∷◌, map, inl, inr, sym, ap, ◌∙◌, subst, arith}
+use Rattle.std.proofs.Common.{◌≡◌, ℕ, ◌+◌, ◌-◌, ◌<◌, ◌≤◌, Bool, true, cond, List, [], ◌∷◌, inl, inr, sym, ap, ◌∙◌, subst, arith}
 use Rattle.std.specs.Prelude.{Contains, flat_map, filter}
 use Rattle.std.specs.List.{range_with_len}
 use Rattle.std.proofs.lemmas.Bool.{cases_Bool}
 use Rattle.std.proofs.lemmas.List.FromFn.{length-range_with_len, get_or-range_with_len}
-use Rattle.std.proofs.lemmas.List.Elements.{All-contains, All-contains_itself, All-filter, Contains-append_left, Contains-append_right, Contains-append_cases}
+use Rattle.std.proofs.lemmas.List.Elements.{Contains-append_left, Contains-append_right, Contains-append_cases}
 use Rattle.due_set.proofs.Rising.{Contains-head, Contains-tail, Contains-cases, Contains-none}
-use Rattle.step_spec.proofs.ListLemmas.{kept_first, kept_behind}
 
 pub in_range : (members who : ℕ) → who < members → Contains (range_with_len 0 members) who
 in_range members who member =
     let long = length-range_with_len 0 members in
     (who, omega arith, get_or-range_with_len 0 members who who member ∙ omega arith)
-
-pub in_range_from : (first count number : ℕ) → first ≤ number → number < first + count → Contains (range_with_len first count) number
-in_range_from first count number from below =
-    let long = length-range_with_len first count in
-    (number - first, omega arith, get_or-range_with_len first count (number - first) number (omega arith) ∙ omega arith)
 
 pub from_range : (first count number : ℕ) → Contains (range_with_len first count) number → (first ≤ number) × (number < first + count)
 from_range first count number (k, within, at) =
@@ -42,19 +36,6 @@ from_flat_map f [] a has = absurd (Contains-none a has)
 from_flat_map f (first ∷ xs) a has = elim (Contains-append_cases (f first) (flat_map f xs) a has) [
   | inl here ↦ record { origin = first; among = Contains-head first xs; has = here }
   | inr more ↦ (let rest = from_flat_map f xs a more in record { origin = rest.origin; among = Contains-tail first xs rest.origin rest.among; has = rest.has })
-]
-
--- a member of a map, and a member that it is the image of
-pub record IsMapped {X Y : Type 0} (f : X → Y) (xs : List X) (y : Y) : Type 0 where
-  pub origin : X
-  pub among : Contains xs origin
-  pub is : f origin ≡ y
-
-pub from_map : {X Y : Type 0} (f : X → Y) (xs : List X) (y : Y) → Contains (map f xs) y → IsMapped f xs y
-from_map f [] y has = absurd (Contains-none y has)
-from_map f (first ∷ xs) y has = elim (Contains-cases (f first) (map f xs) y has) [
-  | inl same ↦ record { origin = first; among = Contains-head first xs; is = same }
-  | inr more ↦ (let rest = from_map f xs y more in record { origin = rest.origin; among = Contains-tail first xs rest.origin rest.among; is = rest.is })
 ]
 
 -- what is kept passes

@@ -1,5 +1,5 @@
 -- The tasks of a round.
-use Rattle.std.proofs.Common.{◌≡◌, ◌⊎◌, ℕ, ◌<◌, true, Option, Some, None, List, [], ◌∷◌, ◌++◌, ℤ, inl, inr, sym, ap, ◌∙◌, subst, if◌then◌else◌}
+use Rattle.std.proofs.Common.{◌≡◌, ◌⊎◌, ℕ, ◌<◌, true, Option, Some, None, List, [], ◌∷◌, ◌++◌, ℤ, inl, inr, sym, ap, ◌∙◌, subst, if◌then◌else◌, ◌<ℤ◌, arith}
 use Rattle.std.specs.Prelude.{Contains, IsSome}
 use Rattle.std.specs.List.{range_with_len}
 use Rattle.std.proofs.lemmas.Bool.{cases_Bool}
@@ -12,7 +12,10 @@ use Rattle.history.specs.declared.turn.Cause.{Cause}
 use Rattle.history.specs.declared.turn.Cause.TheVariants.{Tick, Hear, Answer}
 use Rattle.script_semantics.specs.Round.{answer_tasks, clock_reading, hear_tasks, round_tasks, tasks_of}
 use Rattle.script_semantics.specs.Situation.{Situation, Task, Do}
-use Rattle.script_semantics.proofs.ListLemmas.{from_flat_map, from_map, in_flat_map, in_range}
+use Rattle.script_semantics.proofs.ListLemmas.{from_flat_map, in_flat_map, in_range}
+use Rattle.step_spec.proofs.ListLemmas.{from_map}
+use Rattle.std.proofs.lemmas.Int.{ints, clamps}
+use Rattle.zone_minutes.specs.Window.{IsInWindow}
 
 -- the task takes an answer that waits
 record Takes (situation : Situation) (who : ℕ) (task : Task) : Type 0 where
@@ -188,3 +191,6 @@ is_step members window at situation task has =
         | inr is ↦ (one.by, Tick (clock_reading window at (situation.skews one.by)), is)
       ]
     ]
+
+pub clock_inside : (window : Window) (at skew : ℤ) → window.from.0 <ℤ window.until.0 → IsInWindow window (clock_reading window at skew).0
+clock_inside window at skew ordered = record { since = omega (arith, ints, clamps); before = omega (arith, ints, clamps) }

@@ -30,6 +30,7 @@ use Rattle.script_semantics.specs.Arms.{IsEnough}
 use Rattle.script_semantics.specs.Free.{Course, GoesFreely, IsFreePart, IsFreeTurn, TakesFreeTurns, after_all_posted, course_of, is_turn_of, next_cause}
 use Rattle.script_semantics.specs.Situation.{Situation, changes_in, first_situation}
 use Rattle.script_semantics.proofs.PartLemmas.{goes_none, goes_other, goes_own}
+use Rattle.step_spec.proofs.ListLemmas.{nothing_found}
 
 -- ---- the turns
 
@@ -66,9 +67,6 @@ unheard = ticks 1 ∷ ticks 1 ∷ stands ∷ ticks 0 ∷ []
 
 abbrev pub May : List Row → Row → Type 0
 May book row = MayFollow 2 no_jobs (standing_after 2 (first_rows no_jobs) book) row.turn row
-
-pub nothing_found : {X : Type 0} {x : X} (k : ℕ) → slice_get [] k ≡ Some x → ⊥
-nothing_found k is = cc
 
 asks_nothing : IsIntent no_jobs [] (pos 0) intent.Rest
 asks_nothing = ((λ job at may. nothing_found job may.is_row), (λ job at takes. nothing_found job takes.is_row))

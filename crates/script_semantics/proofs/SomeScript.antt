@@ -17,7 +17,7 @@ use Rattle.history.specs.declared.turn.Turn.TheVariants.{Did}
 use Rattle.script_semantics.specs.Script.{Obeys}
 use Rattle.script_semantics.specs.Settling.{IsQuiet, cleared}
 use Rattle.script_semantics.specs.Situation.{Situation, after_turns, delivered, first_situation}
-use Rattle.script_semantics.proofs.SomeParts.{nothing_found}
+use Rattle.step_spec.proofs.ListLemmas.{nothing_found}
 
 abbrev stands_for : Row
 stands_for = record { turn = Did 0 cause.Campaign None; event = Campaign; letters = []; votes = []; learnt = [] }

@@ -23,7 +23,7 @@ use Rattle.script_semantics.specs.Arms.{StopsInStep, armed_by}
 use Rattle.script_semantics.specs.Script.{ArePartsOf, Obeys}
 use Rattle.script_semantics.specs.Settling.{IsQuiet, Walks, cleared}
 use Rattle.script_semantics.specs.Situation.{Situation, after_turns, delivered, first_situation}
-use Rattle.script_semantics.proofs.SomeParts.{nothing_found}
+use Rattle.step_spec.proofs.ListLemmas.{nothing_found}
 
 abbrev row_of : Turn → Row
 row_of turn = record { turn = turn; event = Campaign; letters = []; votes = []; learnt = [] }

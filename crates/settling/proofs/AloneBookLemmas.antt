@@ -16,7 +16,7 @@ use Rattle.term_core.specs.declared.term.Term.TheVariants.{Leader}
 use Rattle.step_spec.specs.Folds.{calls_of, letter_of, sent_to}
 use Rattle.step_spec.specs.Letters.{IsSpelled}
 use Rattle.step_spec.specs.State.{State, prefix_of}
-use Rattle.step_spec.specs.Step.{Event, IsLaunchTable, step}
+use Rattle.step_spec.specs.Step.{IsLaunchTable, step}
 use Rattle.step_spec.specs.Step as told
 use Rattle.step_spec.specs.declared.out.OutLetter.{OutLetter}
 use Rattle.history.specs.Book.{PostedLetter, Row, after_row, standing_after}
@@ -24,7 +24,7 @@ use Rattle.history.specs.Legal.{IsMade, MayFollow}
 use Rattle.history.specs.declared.turn.CallRow.{CallRow}
 use Rattle.history.specs.declared.turn.Cause.TheVariants.{Campaign}
 use Rattle.history.specs.declared.turn.Turn.TheVariants.{Did}
-use Rattle.history.proofs.Turns.{AllFollow}
+use Rattle.history.proofs.Turns.{AllFollow, all_follow}
 use Rattle.synchronous_rounds.specs.Cluster.{Cluster, IsAdvised, cluster_round}
 use Rattle.synchronous_rounds.specs.Flights.{with_base}
 use Rattle.synchronous_rounds.specs.Measure.{rounds_left}
@@ -35,7 +35,7 @@ use Rattle.script_semantics.specs.Situation.{AreTurnsFor, Do, Performs, Situatio
 use Rattle.settling.specs.Leads.{GoesDrainRound}
 use Rattle.settling.specs.Rounds.{GoesRound, IsFaultless, StandsForRound}
 use Rattle.settling.specs.Stands.{IsLetterAt, StandsForCluster}
-use Rattle.settling.proofs.BookLemmas.{all_follow, stand_after}
+use Rattle.settling.proofs.BookLemmas.{stand_after}
 use Rattle.settling.proofs.ClusterLemmas.{round_is_synchronous, round_leaves_no_fault}
 use Rattle.settling.specs.Campaigns.{GoesCampaign}
 use Rattle.settling.specs.Drain.{HasFewerLeft}

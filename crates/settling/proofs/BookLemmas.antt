@@ -1,8 +1,7 @@
 -- The rows behind a front of a legal book, and its letters.
-use Rattle.std.proofs.Common.{◌≡◌, ℕ, ◌^◌, ◌<◌, ◌≤◌, ltb, Some, List, [], ◌∷◌, ◌++◌, append_assoc, length, take, refl, sym, ap, ◌∙◌, arith, subst}
-use Rattle.std.specs.List.{slice_get}
+use Rattle.std.proofs.Common.{◌≡◌, ℕ, ◌^◌, ◌<◌, ◌≤◌, ltb, List, [], ◌∷◌, ◌++◌, length, refl, sym, ap, ◌∙◌, arith, subst}
 use Rattle.std.proofs.lemmas.Bool.{and_from, lt-ltb}
-use Rattle.std.proofs.lemmas.List.Sums.{fold-append, fold_push}
+use Rattle.std.proofs.lemmas.List.Sums.{fold-append}
 use Rattle.due_set.specs.Table.{IsSound, Table}
 use Rattle.launch_machine.specs.Clerk.{first_rows}
 use Rattle.paxos_letter.proofs.LetterLemmas.{letters_have_packets}
@@ -10,24 +9,13 @@ use Rattle.step_spec.specs.Coherent.{IsCoherent}
 use Rattle.step_spec.specs.Letters.{are_small}
 use Rattle.agreement.specs.Transition.{identity_of}
 use Rattle.history.specs.Book.{Row, Standing, after_row, first_standing, standing_after}
-use Rattle.history.specs.Legal.{IsLegal, MayFollow}
-use Rattle.history.proofs.Turns.{AllFollow, after_rows}
+use Rattle.history.specs.Legal.{IsLegal}
+use Rattle.history.proofs.Turns.{after_rows}
 use Rattle.history.proofs.BookLemmas.{stands}
 use Rattle.history.proofs.Heard.{letters_small}
 use Rattle.script_semantics.specs.Situation.{Situation, after_turn, after_turns}
 use Rattle.settling.specs.Rounds.{IsWithinBounds}
 use Rattle.settling.proofs.PostLemmas.{AreWhole}
-use Rattle.history.proofs.FrontLemmas.{finds_first, take_front}
-
-pub all_follow : (members : ℕ) (table : Table) (book rows : List Row) → IsLegal members table (book ++ rows)
-    → AllFollow members table (standing_after members (first_rows table) book) rows
-all_follow members table book [] legal = tt
-all_follow members table book (row ∷ rows) legal = (
-  subst (λ front. MayFollow members table (standing_after members (first_rows table) front) row.turn row) (take_front book (row ∷ rows))
-      (legal (length book) row (finds_first book row rows)),
-  subst (λ standing. AllFollow members table standing rows) (fold_push _ (first_standing members (first_rows table)) book row)
-      (all_follow members table (book ++ row ∷ []) rows (subst (λ list. IsLegal members table list) (sym (append_assoc book (row ∷ []) rows)) legal)),
-)
 
 turns_stand : (members : ℕ) (situation : Situation) (rows : List Row) → (after_turns members situation rows).standing ≡ after_rows members situation.standing rows
 turns_stand members situation [] = refl

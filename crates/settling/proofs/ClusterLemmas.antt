@@ -9,7 +9,7 @@ use Rattle.zone_minutes.specs.declared.minute.Window.{Window}
 use Rattle.step_spec.specs.Coherent.{IsCoherent}
 use Rattle.agreement.specs.Transition.{identity_of}
 use Rattle.history.specs.Book.{PostedLetter, Row, Standing, standing_after}
-use Rattle.history.proofs.Turns.{AllFollow}
+use Rattle.history.proofs.Turns.{AllFollow, all_follow}
 use Rattle.synchronous_rounds.specs.Cluster.{Cluster, cluster_round}
 use Rattle.script_semantics.specs.Round.{clock_reading, tasks_of}
 use Rattle.script_semantics.specs.Situation.{Situation, after_turns, delivered, letters_for}
@@ -17,7 +17,7 @@ use Rattle.settling.specs.Rounds.{GoesRound, IsFaultless, IsWithinBounds, Stands
 use Rattle.settling.specs.Stands.{IsLetterAt, StandsForCluster}
 use Rattle.settling.proofs.AllLemmas.{BeginsPart, HadPart, HadParts, all_parts}
 use Rattle.history.proofs.FrontLemmas.{front_legal}
-use Rattle.settling.proofs.BookLemmas.{all_follow, book_coherent, letters_are_whole, stand_after}
+use Rattle.settling.proofs.BookLemmas.{book_coherent, letters_are_whole, stand_after}
 use Rattle.settling.proofs.DeliverLemmas.{letters_join}
 use Rattle.settling.proofs.PassLemmas.{whole_right}
 use Rattle.settling.proofs.PostLemmas.{AreWhole}

@@ -26,10 +26,11 @@ use Rattle.synchronous_rounds.specs.Rounds.{IsAnswerTo}
 use Rattle.synchronous_rounds.specs.LedAlone.{IsLeading, Progress}
 use Rattle.synchronous_rounds.proofs.BeginLemmas.{Begun, begins_entry, calls_for, says_lead, ends, next_entry, proposing, takes_end, tick_begins}
 use Rattle.synchronous_rounds.proofs.NearLemmas.{learned_nearer}
-use Rattle.synchronous_rounds.proofs.OutcomeLemmas.{long_tick, no_call_rebase, saying_stays, short_tick, one_call, call_stays}
+use Rattle.synchronous_rounds.proofs.OutcomeLemmas.{no_call_rebase, saying_stays, short_tick, one_call, call_stays}
 use Rattle.synchronous_rounds.proofs.TickLemmas.{due_by, due_is, due_then, holds_rebased, none_due}
 use Rattle.settling.specs.Alone.{IfWaits}
 use Rattle.settling.proofs.StepLemmas.{alone, learns_it, uncalled_lead, uncalled_proposal, untold_call, untold_lead, untold_proposal, untold_rebase}
+use Rattle.step_spec.proofs.DeltaLemmas.{tick-long}
 
 -- no vote binds it, no answer waits, and its launch table asks for nothing
 pub record HasNothing (best : List Vote) (at : Progress) (now : ℤ) (waits : Option SchedRow) : Type 0 where
@@ -76,7 +77,7 @@ pub tick_alone : (best : List Vote) (at : Progress) (sound : IsSound at.table) (
 unfolding step
 tick_alone best at sound now plan state answered leading planned wanted =
     elim (cases_Bool (is_long state)) [
-      | inl long ↦ subst (λ acts. Ticked best at now state answered acts) (sym (long_tick alone now plan.rows plan.intent state long)) (rebased long)
+      | inl long ↦ subst (λ acts. Ticked best at now state answered acts) (sym (tick-long alone now plan.rows plan.intent state long)) (rebased long)
       | inr short ↦
           subst (λ acts. Ticked best at now state answered acts) (sym (short_tick alone now plan.rows plan.intent state short))
           (goes (tick_of alone now plan.intent state state.term) (tick_begins alone at best sound now plan.intent state asked leading))
@@ -188,7 +189,7 @@ unfolding step
 tick_stays best at now plan state answered leading planned wanted unbound rests =
     elim (cases_Bool (is_long state)) [
       | inl long ↦
-          stays at.prefix (Rebase (prefix_of state) plan.rows ∷ []) (long_tick alone now plan.rows plan.intent state long) (no_call_rebase (prefix_of state) plan.rows)
+          stays at.prefix (Rebase (prefix_of state) plan.rows ∷ []) (tick-long alone now plan.rows plan.intent state long) (no_call_rebase (prefix_of state) plan.rows)
           (holds_rebased (Leader at.ballot best None) at plan.rows state leading planned refl)
       | inr short ↦
           stays at.base (Send Others (Lead at.ballot at.prefix) ∷ []) (short_tick alone now plan.rows plan.intent state short ∙ leads_still best at now plan.intent state leading unbound wants)

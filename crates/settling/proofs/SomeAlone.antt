@@ -1,6 +1,5 @@
 -- A legal book of one replica over a table without jobs: the replica stands for leader, and its clock ticks.
-use Rattle.std.proofs.Common.{◌≡◌, ℕ, ◌<◌, zero, suc, pos, true, Some, None, List, [], ◌∷◌, ℤ, refl, arith, lit<}
-use Rattle.std.specs.List.{slice_get}
+use Rattle.std.proofs.Common.{◌≡◌, ℕ, ◌<◌, zero, suc, pos, true, None, List, [], ◌∷◌, ℤ, refl, arith, lit<}
 use Rattle.paxos_base.specs.Durable.{after_delta}
 use Rattle.paxos_base.specs.Members.{with_member}
 use Rattle.paxos_base.specs.Vote.{votes_from}
@@ -23,7 +22,7 @@ use Rattle.settling.specs.Campaigns.{GoesCampaign}
 use Rattle.settling.specs.Idle.{IsIdleAt}
 use Rattle.settling.specs.Alone.{LeadsItself}
 use Rattle.settling.proofs.AloneBookLemmas.{campaign_is_won, campaign_leaves_no_fault}
-use Rattle.script_semantics.proofs.SomeParts.{nothing_found}
+use Rattle.step_spec.proofs.ListLemmas.{nothing_found}
 
 abbrev quiet_table : Table
 quiet_table = record { window = record { from = record { 0 = pos 525_600 }; until = record { 0 = pos 525_601 } }; grace = 0; zones = []; jobs = [] }

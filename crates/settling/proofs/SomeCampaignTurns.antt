@@ -25,7 +25,7 @@ use Rattle.zone_minutes.specs.Window.{IsInWindow}
 use Rattle.script_semantics.specs.Situation.{Situation, first_situation}
 use Rattle.settling.specs.Rounds.{IsFaultless}
 use Rattle.due_set.proofs.Rising.{Contains-cases as cons_cases}
-use Rattle.script_semantics.proofs.SomeParts.{nothing_found}
+use Rattle.step_spec.proofs.ListLemmas.{nothing_found}
 
 -- ---- the table
 

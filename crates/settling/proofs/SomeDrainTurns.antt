@@ -25,7 +25,7 @@ use Rattle.history.specs.Book.{PostedLetter, Row, Standing, acts_at, votes_of}
 use Rattle.history.specs.Legal.{BringsStep, IsMade, MayFollow}
 use Rattle.history.specs.declared.turn.Cause.TheVariants as cause
 use Rattle.history.specs.declared.turn.Turn.TheVariants.{Did}
-use Rattle.script_semantics.proofs.SomeParts.{nothing_found}
+use Rattle.step_spec.proofs.ListLemmas.{nothing_found}
 
 -- ---- the table
 

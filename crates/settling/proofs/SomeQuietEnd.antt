@@ -1,6 +1,5 @@
 -- A legal book that comes to a quiet situation: one of two replicas has been elected over a table without jobs, and has ticked.
-use Rattle.std.proofs.Common.{ℕ, zero, suc, ◌<◌, pos, None, Some, List, [], take, ℤ, refl, arith, ◌≡◌}
-use Rattle.std.specs.List.{slice_get}
+use Rattle.std.proofs.Common.{ℕ, zero, suc, ◌<◌, pos, None, List, [], take, ℤ, refl, arith, ◌≡◌}
 use Rattle.cluster_sched.specs.declared.fate.Fate.TheVariants as fate
 use Rattle.paxos_base.specs.Durable.{after_delta}
 use Rattle.paxos_base.specs.Members.{with_member}
@@ -20,7 +19,7 @@ use Rattle.history.proofs.SomeBook.{some_book, some_book_is_legal}
 use Rattle.script_semantics.specs.Settling.{IsQuiet}
 use Rattle.script_semantics.specs.Situation.{Situation}
 use Rattle.settling.specs.Quiet.{EndsQuietly, HasPromisedMost}
-use Rattle.script_semantics.proofs.SomeParts.{nothing_found}
+use Rattle.step_spec.proofs.ListLemmas.{nothing_found}
 
 abbrev elected : List Row
 elected = take 4 some_book

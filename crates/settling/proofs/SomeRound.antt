@@ -1,6 +1,5 @@
 -- A legal book that begins with a round: two replicas over a table without jobs tick, and nothing else happens.
-use Rattle.std.proofs.Common.{◌≡◌, ℕ, ◌<◌, zero, suc, pos, true, length, Some, None, List, [], ◌∷◌, ℤ, refl, arith, lit<}
-use Rattle.std.specs.List.{slice_get}
+use Rattle.std.proofs.Common.{◌≡◌, ℕ, ◌<◌, zero, suc, pos, true, length, None, List, [], ◌∷◌, ℤ, refl, arith, lit<}
 use Rattle.due_set.specs.Table.{IsSound, Table}
 use Rattle.launch_machine.specs.declared.machine.Intent.TheVariants as intent
 use Rattle.step_spec.specs.Act.{after_act}
@@ -18,7 +17,7 @@ use Rattle.synchronous_rounds.specs.Cluster.{Cluster}
 use Rattle.script_semantics.specs.Situation.{Situation, after_turns, delivered, first_situation}
 use Rattle.settling.specs.Rounds.{GoesRound}
 use Rattle.settling.specs.Stands.{StandsForCluster}
-use Rattle.script_semantics.proofs.SomeParts.{nothing_found}
+use Rattle.step_spec.proofs.ListLemmas.{nothing_found}
 
 abbrev quiet_table : Table
 quiet_table = record { window = record { from = record { 0 = pos 525_600 }; until = record { 0 = pos 525_601 } }; grace = 0; zones = []; jobs = [] }

@@ -1,5 +1,5 @@
 -- In a legal book no replica has promised a ballot, and no letter names one, that its own replica has not tried.
-use Rattle.std.proofs.Common.{◌≡◌, ℕ, ◌<◌, ◌≤◌, Option, Some, None, List, [], ◌∷◌, ◌++◌, refl, sym, ◌∙◌, inl, inr, arith, subst, length}
+use Rattle.std.proofs.Common.{◌≡◌, ℕ, ◌<◌, ◌≤◌, Option, Some, None, List, [], ◌∷◌, ◌++◌, refl, sym, inl, inr, arith, subst, length}
 use Rattle.std.specs.List.{AllByRecursion, Contains, filter}
 use Rattle.std.proofs.Math.Nat.{le-max_left}
 use Rattle.paxos_base.specs.Ballot.{member_of, round_of}
@@ -11,7 +11,7 @@ use Rattle.launch_machine.specs.Clerk.{first_rows}
 use Rattle.step_spec.specs.Act.{Act, Observe, Stand, Gather, TakeLead, Pledge, Cast, Propose, Count, Wait, Learn, Rebase, Call, Send, Restart, after_act}
 use Rattle.step_spec.specs.Coherent.{IsCoherent}
 use Rattle.step_spec.specs.Letters.{IsHeardAs}
-use Rattle.step_spec.specs.May.{AllMay, Ending, HasSaid, May, MaySend, Saying, Setting, TellsWhatWasSaid, WasSaid}
+use Rattle.step_spec.specs.May.{AllMay, HasSaid, May, MaySend, Saying, Setting, TellsWhatWasSaid, WasSaid}
 use Rattle.step_spec.specs.Message.{Message, Prepare, Promise, Accept, Accepted, Nack, Known, AskFrom, Snap, Lead, Mention, ballot_in}
 use Rattle.step_spec.specs.Propose.{next_ballot}
 use Rattle.step_spec.specs.State.{Identity, State, promised_in}
@@ -19,7 +19,7 @@ use Rattle.step_spec.specs.Step.{Event, Campaign, Tick, Hear, Answer}
 use Rattle.step_spec.proofs.Lists.{nothing_in}
 use Rattle.agreement.specs.Agree.{HasCast}
 use Rattle.agreement.specs.Transition as taken
-use Rattle.agreement.specs.Transition.{AreTransitions, MayCome, MayTake, after_transition, after_transitions, identity_of, is_silent}
+use Rattle.agreement.specs.Transition.{AreTransitions, MayCome, after_transition, after_transitions, identity_of, is_silent}
 use Rattle.agreement.specs.World.{CastVote, Doing, MayDo, World, after_all, after_doing, after_done, doings_of, first_world, with_replica}
 use Rattle.agreement.proofs.Growing.{each_replica, goes_on, said_cases}
 use Rattle.agreement.proofs.Kept.{Kept, leads_own, own_ballot, says_may}
@@ -27,9 +27,9 @@ use Rattle.agreement.proofs.KeptLemmas.{setting_of}
 use Rattle.agreement.proofs.Transitions.{IsFollowed, first_followed, followed_after_all, transitions_followed, front_may, silent_may}
 use Rattle.history.specs.Book.{PostedLetter, Row, standing_after, votes_in}
 use Rattle.history.specs.Legal.{IsLegal}
-use Rattle.history.proofs.Acts.{all_answered_more, all_replicas, all_said_more, with_here}
+use Rattle.history.proofs.Acts.{with_here}
 use Rattle.history.proofs.Reached.{Matches, reaches}
-use Rattle.history.proofs.TurnBounds.{step_all, may_rest}
+use Rattle.history.proofs.TurnBounds.{step_all, may_rest, setting_with, MayAll}
 use Rattle.settling.specs.Tried.{IsTried}
 use Rattle.settling.proofs.TakesLemmas.{AllName, AllTake, Takes, step_takes}
 
@@ -121,16 +121,6 @@ tried_after n table w doing kept tried may takes = record {
 }
 
 -- ---- acts one after another
-
-abbrev setting_with : ℕ → Table → ℕ → Option Event → List Saying → List Ending → Setting
-setting_with n table by event said answered =
-    record { self = record { me = by; members = n }; table = table; event = event; said = said; answered = answered }
-
--- acts may be done one after another, whatever more is said and answered meanwhile
-abbrev MayAll : ℕ → Table → ℕ → Option Event → World → List Act → Type 0
-MayAll n table by event w acts =
-    (said : List Saying) (answered : List Ending) → ((saying : Saying) → Contains w.said saying → Contains said saying)
-    → ((ending : Ending) → Contains w.answered ending → Contains answered ending) → AllMay (setting_with n table by event said answered) (w.replicas by) acts
 
 -- what holds of the ballots of some acts holds where more follows of it
 take_more : (P Q : ℕ → Type 0) (acts : List Act) → ((ballot : ℕ) → P ballot → Q ballot) → AllTake P acts → AllTake Q acts

@@ -8,7 +8,7 @@ use Rattle.cluster_sched.specs.declared.row.SchedRow.{SchedRow}
 use Rattle.step_spec.specs.Folds.{after_acts, calls_by, calls_of, sent_to}
 use Rattle.step_spec.specs.Propose.{campaign}
 use Rattle.step_spec.specs.State.{Identity, State}
-use Rattle.step_spec.specs.Step.{Event, step}
+use Rattle.step_spec.specs.Step.{step}
 use Rattle.step_spec.specs.Step as told
 use Rattle.agreement.specs.Transition.{identity_of}
 use Rattle.history.specs.Book.{PostedLetter, Row, Standing, after_row, standing_after}
@@ -17,14 +17,14 @@ use Rattle.history.specs.declared.turn.CallRow.{CallRow}
 use Rattle.history.specs.declared.turn.Cause.TheVariants.{Campaign}
 use Rattle.history.specs.declared.turn.Turn.TheVariants.{Did}
 use Rattle.history.proofs.Standings.{waits_none}
-use Rattle.history.proofs.Turns.{AllFollow}
+use Rattle.history.proofs.Turns.{AllFollow, all_follow}
 use Rattle.synchronous_rounds.specs.Cluster.{Cluster, letter_from}
 use Rattle.synchronous_rounds.proofs.CountLemmas.{few_alone}
 use Rattle.synchronous_rounds.specs.Made.{after_campaign, campaign_acts}
 use Rattle.script_semantics.specs.Situation.{AreTurnsFor, Does, Situation, Do, after_turn, after_turns, delivered, letters_for, mails_after}
 use Rattle.settling.specs.Rounds.{IsFaultless, IsWithinBounds}
 use Rattle.settling.specs.Stands.{IsHeardLike, IsLetterAt, StandsForCluster}
-use Rattle.settling.proofs.BookLemmas.{all_follow, letters_are_whole, stand_after}
+use Rattle.settling.proofs.BookLemmas.{letters_are_whole, stand_after}
 use Rattle.settling.proofs.DeliverLemmas.{letters_join}
 use Rattle.settling.proofs.PartLemmas.{zip_posted}
 use Rattle.settling.proofs.PassLemmas.{Passes, turn_passes, whole_right, zip_append}

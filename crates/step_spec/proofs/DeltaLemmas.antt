@@ -16,7 +16,7 @@ use Rattle.term_core.specs.declared.term.Term.{Term}
 use Rattle.term_core.specs.declared.term.Term.TheVariants.{Follower, Candidate, Leader}
 use Rattle.launch_machine.specs.declared.machine.Intent.{Intent}
 use Rattle.launch_machine.specs.declared.machine.Intent.TheVariants as intent
-use Rattle.step_spec.specs.Act.{Act}
+use Rattle.step_spec.specs.Act.{Act, Rebase}
 use Rattle.step_spec.specs.Folds.{after_acts, deltas_by, deltas_of}
 use Rattle.step_spec.specs.Hear.{Once, ask_below, hear, hear_all, is_vote_of, known_from, line, not_yet, on_prepare, on_promise, on_accept, on_accepted, on_known, on_ask, on_lead, on_snap, once_after, send_all, snapshot}
 use Rattle.step_spec.specs.Message.{Message, Prepare, Promise, Accept, Accepted, Nack, Known, AskFrom, Snap, Lead, Mention}
@@ -207,3 +207,8 @@ step_changes self (Tick now plan) state once = elim (cases_Bool (is_long state))
 ]
 step_changes self (Hear from messages) state once = omega (arith, once, hear_all_changes self from messages not_yet state)
 step_changes self (Answer job at kind rows) state once = answer_changes self state (End job at kind) (is_open job at rows) state.term
+
+-- a tick of a replica that keeps too many entries rebases, and does nothing else
+pub tick-long : (self : Identity) (now : ℤ) (rows : List JobRow) (wanted : Intent) (state : State) → is_long state ≡ true → tick self now rows wanted state ≡ Rebase (prefix_of state) rows ∷ []
+unfolding tick
+tick-long self now rows wanted state long = rw long refl

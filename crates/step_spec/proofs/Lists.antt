@@ -1,8 +1,11 @@
 -- What is in a list.
-use Rattle.std.proofs.Common.{◌≡◌, ℕ, zero, suc, ◌<◌, Some, List, [], ◌∷◌, ◌++◌, length, map, take, refl, ap, inl, inr, arith, ◌⊎◌, subst}
+use Rattle.std.proofs.Common.{◌≡◌, ℕ, zero, suc, Some, List, [], ◌∷◌, ◌++◌, map, take, refl, ap, inl, inr, arith, subst}
 use Rattle.std.specs.List.{AllZip, Contains, flat_map, slice_get}
-use Rattle.std.proofs.lemmas.List.Elements.{Contains-push, Contains-push_cases, Contains-append_left, Contains-append_right, Contains-append_cases}
+use Rattle.std.proofs.lemmas.List.Elements.{Contains-append_cases}
 use Rattle.due_set.proofs.Rising.{Contains-head as in_first, Contains-tail as in_rest, Contains-cases as cons_cases}
+use Rattle.step_spec.specs.Folds.{after_acts}
+use Rattle.step_spec.specs.Act.{Act, after_act}
+use Rattle.step_spec.specs.State.{State}
 
 -- nothing is in an empty list
 pub nothing_in : {X : Type 0} {x : X} {P : Type 0} → Contains [] x → P
@@ -60,3 +63,13 @@ pub take_next : {X : Type 0} (xs : List X) (k : ℕ) (x : X) → slice_get xs k 
 take_next [] k x is = absurd cc
 take_next (y ∷ xs) zero x is = let same : y ≡ x = cc in rw same refl
 take_next (y ∷ xs) (suc k) x is = ap (λ rest. y ∷ rest) (take_next xs k x is)
+
+pub after_acts-append : (before after : List Act) (state : State) → after_acts (before ++ after) state ≡ after_acts after (after_acts before state)
+after_acts-append [] after state = refl
+after_acts-append (act ∷ before) after state = after_acts-append before after (after_act act state)
+
+pub AllZip-append : {A B : Type 0} (R : A → B → Type 0) (xs ys : List A) (us vs : List B) → AllZip R xs us → AllZip R ys vs → AllZip R (xs ++ ys) (us ++ vs)
+AllZip-append R [] ys [] vs first rest = rest
+AllZip-append R [] ys (u ∷ us) vs first rest = absurd first
+AllZip-append R (x ∷ xs) ys [] vs first rest = absurd first
+AllZip-append R (x ∷ xs) ys (u ∷ us) vs first rest = (first.0, AllZip-append R xs ys us vs first.1 rest)

@@ -51,7 +51,7 @@ reaches_outside me set member = (
 
 -- ---- letters
 
-range_below : (from count n : ℕ) → Contains (range_with_len from count) n → n < from + count
+pub range_below : (from count n : ℕ) → Contains (range_with_len from count) n → n < from + count
 range_below from zero n has = nothing_in has
 range_below from (suc count) n has = elim (cons_cases from (range_with_len (from + 1) count) n has) [
   | inl same ↦ omega (arith, same)

@@ -10,12 +10,12 @@ use Rattle.step_spec.specs.Hear.{Once, hear, hear_all, line, not_yet, on_lead, o
 use Rattle.step_spec.specs.Message.{Message, AskFrom, Lead, Only}
 use Rattle.step_spec.specs.State.{Identity, State, prefix_of}
 use Rattle.step_spec.specs.Step.{Tick, Plan, step}
-use Rattle.step_spec.proofs.Lists.{nothing_in}
+use Rattle.step_spec.proofs.Lists.{nothing_in, after_acts-append}
 use Rattle.agreement.specs.Transition.{identity_of}
 use Rattle.synchronous_rounds.specs.Cluster.{Advice, Cluster, HeardLetter, after_events, cluster_round, hear_events, letter_from, letters_to}
 use Rattle.synchronous_rounds.specs.LedAlone.{AreWithin, IsBehind, IsLedAlone, Occurs, StaysWithin}
 use Rattle.synchronous_rounds.proofs.FollowerLemmas.{behind_all, behind_hear}
-use Rattle.synchronous_rounds.proofs.Lists.{acts_append, sent_in}
+use Rattle.synchronous_rounds.proofs.Lists.{sent_in}
 use Rattle.synchronous_rounds.proofs.MailLemmas.{occurs_left, occurs_letter, occurs_next, occurs_right}
 use Rattle.synchronous_rounds.specs.CatchUp.{HasSaidToAll, HaveAsked}
 use Rattle.synchronous_rounds.proofs.KeepLemmas.{answer_after, answer_letters, keeps_all, keeps_mail, caught_up_mail, stays_caught_up}
@@ -51,7 +51,7 @@ asks_all self b p from ballot (message ∷ messages) once state within has behin
     let later = once_after message state acts once in
     let rest = hear_all self from messages later now in
     let next = behind_hear self b p from message once state within.0 behind in
-    rw (acts_append acts rest state) (elim (cons_cases message messages (Lead ballot p) has) [
+    rw (after_acts-append acts rest state) (elim (cons_cases message messages (Lead ballot p) has) [
       | inl same ↦ elim (subst (λ m. AskedBy p from (hear self from m once state) (after_acts (hear self from m once state) state)) (sym same) (asks_hear self b p from ballot once state behind)) [
         | inl all ↦ inl (stays_caught_up self b p from messages later now within.1 next (omega (arith, all)))
         | inr lacks ↦

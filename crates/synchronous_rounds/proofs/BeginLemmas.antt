@@ -14,11 +14,11 @@ use Rattle.paxos_base.specs.declared.rows.JobRow.{JobRow}
 use Rattle.cluster_sched.specs.declared.row.SchedRow.{SchedRow}
 use Rattle.due_set.specs.Table.{IsSound, Table}
 use Rattle.launch_machine.specs.Answers.{IsIntent}
-use Rattle.launch_machine.specs.Clerk.{Applies, TakesEnd}
+use Rattle.launch_machine.specs.Clerk.{TakesEnd}
 use Rattle.launch_machine.specs.Intent.{MayCall}
 use Rattle.launch_machine.specs.declared.machine.Intent.{Intent}
 use Rattle.launch_machine.specs.declared.machine.Intent.TheVariants as intent
-use Rattle.launch_machine.proofs.ExistLemmas.{all_applied}
+use Rattle.launch_machine.proofs.ExistLemmas.{one_applied}
 use Rattle.term_core.specs.Term.{after_proposal, new_flight}
 use Rattle.step_spec.specs.Act.{Act, Call, Send, after_act}
 use Rattle.step_spec.specs.Folds.{after_acts, calls_by, sent_by, sent_to}
@@ -33,14 +33,10 @@ use Rattle.due_set.proofs.Rising.{Contains-head as in_first}
 
 -- ---- a proposal
 
--- an entry does something to a launch table, or nothing
-pub decides : (table : Table) → IsSound table → (rows : List JobRow) (entry : Entry) → (later : List JobRow) × Applies table rows entry later
-decides table sound rows entry = let all = all_applied table sound rows (entry ∷ []) in (all.1.0, all.1.1)
-
 -- an entry for a leader's prefix
 abbrev pub next_entry : (at : Progress) → IsSound at.table → Entry → NextEntry at
 next_entry at sound entry =
-    record { entry = entry; later = (decides at.table sound at.rows entry).0; applies = (decides at.table sound at.rows entry).1 }
+    record { entry = entry; later = (one_applied at.table sound at.rows entry).0; applies = (one_applied at.table sound at.rows entry).1 }
 
 -- the acts of proposing it
 abbrev pub proposing : Identity → Progress → Entry → List Act

@@ -27,7 +27,8 @@ use Rattle.step_spec.specs.Step.{Answer, Event, Hear, Plan, Tick, step}
 use Rattle.synchronous_rounds.specs.Cluster.{HeardLetter, after_events, answer_events, hear_events, letter_from, letters_to}
 use Rattle.synchronous_rounds.specs.LedAlone.{AreWithin, StaysWithin}
 use Rattle.synchronous_rounds.proofs.ActLemmas.{observed, rebased_prefix, silent_ask, silent_sends, silent_snapshot}
-use Rattle.synchronous_rounds.proofs.Lists.{acts_append, all_join}
+use Rattle.synchronous_rounds.proofs.Lists.{all_join}
+use Rattle.step_spec.proofs.Lists.{after_acts-append}
 
 -- ---- what the first round sends
 
@@ -262,7 +263,7 @@ short_all self top p from (message ∷ messages) once state within none short =
     let acts = hear self from message once state in
     let now = after_acts acts state in
     let later = once_after message state acts once in
-    rw (acts_append acts (hear_all self from messages later now) state)
+    rw (after_acts-append acts (hear_all self from messages later now) state)
     (short_all self top p from messages later now within.1 none.1
     (short_line self top p from message once (observed (ballot_in message) state) within.0 none.0 (short_observed top p (ballot_in message) state short)))
 

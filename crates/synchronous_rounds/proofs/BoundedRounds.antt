@@ -13,7 +13,7 @@ use Rattle.step_spec.specs.Step.{Event, Tick}
 use Rattle.agreement.specs.Transition.{identity_of}
 use Rattle.synchronous_rounds.specs.Cluster.{Advice, Cluster, HeardLetter, IsAdvised, after_events, answer_events, before_tick, cluster_round, events_at, hear_events, letters_to}
 use Rattle.synchronous_rounds.specs.LedAlone.{AreWithin, Progress, StaysWithin}
-use Rattle.synchronous_rounds.proofs.Lists.{all_flat, planned_behind, range_below}
+use Rattle.synchronous_rounds.proofs.Lists.{all_flat, planned_behind}
 use Rattle.synchronous_rounds.proofs.RoundLemmas.{round_after, ticked}
 use Rattle.synchronous_rounds.proofs.LedAloneLemmas.{plain_round}
 use Rattle.synchronous_rounds.proofs.SendLemmas.{letters_within}
@@ -24,6 +24,7 @@ use Rattle.synchronous_rounds.proofs.BoundLemmas.{AllSendNone, AreNoAcceptances,
 use Rattle.synchronous_rounds.proofs.DecidedLemmas.{planned_front}
 use Rattle.synchronous_rounds.proofs.ReplyLemmas.{answers_steady, tick_steady}
 use Rattle.synchronous_rounds.proofs.TermLemmas.{sound_events}
+use Rattle.step_spec.proofs.OutLemmas.{range_below}
 
 -- ---- mails, by what all come to
 

@@ -13,13 +13,12 @@ use Rattle.step_spec.specs.Hear.{Once, hear, hear_all, line, not_yet, on_accepte
 use Rattle.step_spec.specs.Message.{Message, Promise, ballot_in}
 use Rattle.step_spec.specs.State.{Identity, State}
 use Rattle.step_spec.specs.Step.{step}
-use Rattle.step_spec.proofs.Lists.{nothing_in}
+use Rattle.step_spec.proofs.Lists.{nothing_in, after_acts-append}
 use Rattle.synchronous_rounds.specs.Cluster.{HeardLetter, after_events, hear_events}
 use Rattle.synchronous_rounds.specs.LedAlone.{AreFrom, AreWithin, IsHolding, IsLeading, Occurs, Progress, StaysWithin}
 use Rattle.synchronous_rounds.proofs.ActLemmas.{observed}
 use Rattle.synchronous_rounds.proofs.CountLemmas.{all_are_enough, few_alone, in_with}
 use Rattle.synchronous_rounds.proofs.LeaderLemmas.{free_hear, hold_line}
-use Rattle.synchronous_rounds.proofs.Lists.{acts_append}
 use Rattle.due_set.proofs.Rising.{Contains-cases as cons_cases}
 
 -- whose campaign it is, how far it is, and the slot from which on it asked for votes
@@ -162,7 +161,7 @@ competes_all bid counted from (message ∷ messages) once state small within com
     let now = after_acts acts state in
     let later = once_after message state acts once in
     let more : ℕ → Type 0 = AndNow bid counted from message in
-    rw (acts_append acts (hear_all bid.self from messages later now) state)
+    rw (after_acts-append acts (hear_all bid.self from messages later now) state)
     (competes_fewer bid (λ q. more q ⊎ Among bid from messages q) (λ q. counted q ⊎ Among bid from (message ∷ messages) q) _
     (λ q is. elim is [
       | inl old ↦ inl (inl old)

@@ -15,13 +15,12 @@ use Rattle.step_spec.specs.Hear.{Once, hear, hear_all, line, not_yet, on_accepte
 use Rattle.step_spec.specs.Message.{Message, Accepted, ballot_in}
 use Rattle.step_spec.specs.State.{State, prefix_of}
 use Rattle.step_spec.specs.Step.{step}
-use Rattle.step_spec.proofs.Lists.{nothing_in}
+use Rattle.step_spec.proofs.Lists.{nothing_in, after_acts-append}
 use Rattle.synchronous_rounds.specs.Cluster.{HeardLetter, after_events, hear_events}
 use Rattle.synchronous_rounds.specs.Flights.{IsFlight, Proposal, Proposes, learned_by}
 use Rattle.synchronous_rounds.specs.LedAlone.{AreFrom, AreWithin, IsLeading, StaysWithin, Occurs}
 use Rattle.synchronous_rounds.proofs.ActLemmas.{observed}
 use Rattle.synchronous_rounds.proofs.LeaderLemmas.{free_hear, lead_line, leading_observed}
-use Rattle.synchronous_rounds.proofs.Lists.{acts_append}
 use Rattle.due_set.proofs.Rising.{Contains-cases as cons_cases}
 
 -- the proposal is under way, and all of these are counted; or it has been learned
@@ -157,7 +156,7 @@ goes_all proposal counted from (message ∷ messages) once state small within go
     let acts = hear proposal.self from message once state in
     let now = after_acts acts state in
     let later = once_after message state acts once in
-    rw (acts_append acts (hear_all proposal.self from messages later now) state)
+    rw (after_acts-append acts (hear_all proposal.self from messages later now) state)
     (goes_fewer proposal (λ q. AndNow proposal counted from message q ⊎ ((from ≡ q) × Contains messages (Accepted proposal.at.ballot proposal.at.prefix))) (λ q. counted q ⊎ ((from ≡ q) × Contains (message ∷ messages) (Accepted proposal.at.ballot proposal.at.prefix))) _
     (λ q is. elim is [
       | inl old ↦ inl (inl old)

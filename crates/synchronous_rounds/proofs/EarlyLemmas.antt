@@ -27,10 +27,10 @@ use Rattle.step_spec.proofs.Said.{setting_of, stays_coherent, step_may_be_done}
 use Rattle.synchronous_rounds.specs.Cluster.{HeardLetter, after_events, hear_events, letter_from, letters_to}
 use Rattle.synchronous_rounds.specs.LedAlone.{AreWithin, Occurs, StaysWithin}
 use Rattle.synchronous_rounds.proofs.ActLemmas.{rebased_prefix, silent_ask, silent_sends, silent_snapshot}
-use Rattle.synchronous_rounds.proofs.Lists.{acts_append}
 use Rattle.synchronous_rounds.proofs.MailLemmas.{occurs_left, occurs_letter, occurs_right}
 use Rattle.due_set.proofs.Rising.{Contains-head as in_first, Contains-tail as in_rest}
 use Rattle.step_spec.proofs.OutLemmas.{flat_has as flat_in}
+use Rattle.step_spec.proofs.Lists.{after_acts-append}
 
 -- acts that may be done one after another, taken apart
 may_split : (setting : Setting) (state : State) (xs ys : List Act) → AllMay setting state (xs ++ ys) → AllMay setting state xs × AllMay setting (after_acts xs state) ys
@@ -225,9 +225,9 @@ early_observed top p ballot state early = same_early top p state (Observe ballot
 -- parts of acts, one after another
 early_join : (top p : ℕ) (state : State) (xs ys : List Act) → StaysEarly top p state xs → StaysEarly top p (after_acts xs state) ys → StaysEarly top p state (xs ++ ys)
 early_join top p state xs ys first second = record {
-  early = rw (acts_append xs ys state) second.early;
+  early = rw (after_acts-append xs ys state) second.early;
   tells = elim second.tells [
-    | inl short ↦ inl (rw (acts_append xs ys state) short)
+    | inl short ↦ inl (rw (after_acts-append xs ys state) short)
     | inr late ↦ elim late [
       | inr told ↦ inr (inr (told.0, Contains-append_right xs ys (Send Others (Known p told.0)) told.1))
       | inl before ↦ elim first.tells [

@@ -18,15 +18,16 @@ use Rattle.synchronous_rounds.specs.Rounds.{Lands, WaitsOn}
 use Rattle.synchronous_rounds.specs.LedAlone.{IsLedAlone, Occurs}
 use Rattle.synchronous_rounds.proofs.CountLemmas.{GoesOnBy, IsLearned, all_accept, goes_mail}
 use Rattle.synchronous_rounds.proofs.NearLemmas.{begun_leads, learned_nearer, waits_nearer}
-use Rattle.synchronous_rounds.proofs.OutcomeLemmas.{long_tick, no_call_rebase, no_call_wait, short_tick, tick_outcome}
+use Rattle.synchronous_rounds.proofs.OutcomeLemmas.{no_call_rebase, no_call_wait, short_tick, tick_outcome}
 use Rattle.synchronous_rounds.proofs.RoundLemmas.{round_after, round_planned}
 use Rattle.synchronous_rounds.proofs.TickLemmas.{Waited, flight_tick}
+use Rattle.step_spec.proofs.DeltaLemmas.{tick-long}
 
 -- a leader with a flight calls for nothing
 flight_uncalled : (proposal : Proposal) (flight : Flight) (self : Identity) (now : ℤ) (rows : List JobRow) (wanted : Intent) (state : State) → Proposes proposal flight state → calls_of (tick self now rows wanted state) ≡ []
 flight_uncalled proposal flight self now rows wanted state proposes =
     elim (cases_Bool (is_long state)) [
-      | inl long ↦ ap calls_of (long_tick self now rows wanted state long) ∙ no_call_rebase (prefix_of state) rows
+      | inl long ↦ ap calls_of (tick-long self now rows wanted state long) ∙ no_call_rebase (prefix_of state) rows
       | inr short ↦
           ap calls_of (short_tick self now rows wanted state short ∙ ap (λ t. tick_of self now wanted state t) proposes.leading.is)
           ∙ no_call_wait proposal.at.ballot flight

@@ -21,11 +21,10 @@ use Rattle.step_spec.specs.Message.{Message, Prepare, Promise, Accept, Accepted,
 use Rattle.step_spec.specs.Propose.{answer, answer_of, is_long, is_open, tick, tick_of}
 use Rattle.step_spec.specs.State.{Identity, State, prefix_of, promised_in}
 use Rattle.step_spec.specs.Step.{Tick, Answer, Plan, step}
-use Rattle.step_spec.proofs.Lists.{nothing_in}
+use Rattle.step_spec.proofs.Lists.{nothing_in, after_acts-append}
 use Rattle.synchronous_rounds.specs.Cluster.{HeardLetter, after_events, answer_events, hear_events}
 use Rattle.synchronous_rounds.specs.LedAlone.{AreWithin, IsBehind, StaysWithin}
 use Rattle.synchronous_rounds.proofs.ActLemmas.{follows_later, follows_on, observed, rebased_prefix, silent_ask, silent_sends, silent_snapshot}
-use Rattle.synchronous_rounds.proofs.Lists.{acts_append}
 use Rattle.due_set.proofs.Rising.{Contains-head as in_first, Contains-tail as in_rest, Contains-cases as cons_cases}
 
 -- ---- what a follower doesn't do
@@ -150,7 +149,7 @@ behind_all self b p from (message ∷ messages) once state within behind =
     let acts = hear self from message once state in
     let now = after_acts acts state in
     let later = once_after message state acts once in
-    rw (acts_append acts (hear_all self from messages later now) state)
+    rw (after_acts-append acts (hear_all self from messages later now) state)
     (behind_all self b p from messages later now within.1 (behind_hear self b p from message once state within.0 behind))
 
 -- ---- its part of a round

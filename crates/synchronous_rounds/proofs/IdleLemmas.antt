@@ -25,7 +25,7 @@ use Rattle.synchronous_rounds.specs.Rounds.{IsAnswerTo, StaysFree}
 use Rattle.synchronous_rounds.specs.LedAlone.{IsLeading, Progress}
 use Rattle.synchronous_rounds.proofs.FreeLemmas.{free_next}
 use Rattle.synchronous_rounds.proofs.LeaderLemmas.{free_mail}
-use Rattle.synchronous_rounds.proofs.OutcomeLemmas.{long_tick, saying_stays, short_tick}
+use Rattle.synchronous_rounds.proofs.OutcomeLemmas.{saying_stays, short_tick}
 use Rattle.synchronous_rounds.proofs.RoundLemmas.{round_after, round_planned}
 use Rattle.synchronous_rounds.proofs.StageLemmas.{led_alone_then}
 use Rattle.synchronous_rounds.proofs.TickLemmas.{holds_rebased}
@@ -33,6 +33,7 @@ use Rattle.synchronous_rounds.specs.CatchUp.{AreFiveRounds, HaveCaughtUp, AreTol
 use Rattle.synchronous_rounds.proofs.AskLemmas.{asked_next}
 use Rattle.synchronous_rounds.proofs.LearnLemmas.{learned_next, caught_up_still}
 use Rattle.synchronous_rounds.proofs.TellLemmas.{told_next}
+use Rattle.step_spec.proofs.DeltaLemmas.{tick-long}
 
 -- ---- the leader
 
@@ -84,7 +85,7 @@ idle_begins members leader best at now advice answers cluster idle advised = go 
     term_is : (next.replicas leader).term ≡ Leader at.ballot best None
     term_is = ap (λ s. s.term) (round_after members now advice answers cluster leader) ∙ elim (cases_Bool (is_long state)) [
       | inl long ↦
-          ap (λ some. (after_acts some state).term) (long_tick self now plan.rows plan.intent state long)
+          ap (λ some. (after_acts some state).term) (tick-long self now plan.rows plan.intent state long)
           ∙ (holds_rebased (Leader at.ballot best None) at plan.rows state leading planned.0 refl).is
       | inr short ↦
           ap (λ some. (after_acts some state).term) (short_tick self now plan.rows plan.intent state short ∙ says_lead self best at now plan.intent state leading idle.unbound wants)

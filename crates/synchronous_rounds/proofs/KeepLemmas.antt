@@ -19,7 +19,7 @@ use Rattle.synchronous_rounds.specs.Cluster.{HeardLetter, after_events, answer_e
 use Rattle.synchronous_rounds.specs.LedAlone.{AreWithin, IsBehind, StaysWithin}
 use Rattle.synchronous_rounds.proofs.ActLemmas.{observed, rebased_prefix, silent_ask, silent_sends, silent_snapshot}
 use Rattle.synchronous_rounds.proofs.FollowerLemmas.{behind_all, behind_hear, behind_mail, behind_observed, no_accepted, no_answer, no_promise, no_tick}
-use Rattle.synchronous_rounds.proofs.Lists.{acts_append}
+use Rattle.step_spec.proofs.Lists.{after_acts-append}
 
 -- ---- a message
 
@@ -84,7 +84,7 @@ keeps_all self b p from (message ∷ messages) once state within behind =
     let later = once_after message state acts once in
     let first = keeps_hear self b p from message once state behind in
     let rest = keeps_all self b p from messages later now within.1 (behind_hear self b p from message once state within.0 behind) in
-    rw (acts_append acts (hear_all self from messages later now) state) (omega (arith, first, rest))
+    rw (after_acts-append acts (hear_all self from messages later now) state) (omega (arith, first, rest))
 
 -- one that has learned as much as the leader stays so
 pub stays_caught_up : (self : Identity) (b p from : ℕ) (messages : List Message) (once : Once) (state : State) → AllByRecursion (StaysWithin b p) messages → IsBehind b p state → p ≤ prefix_of state → prefix_of (after_acts (hear_all self from messages once state) state) ≡ p

@@ -19,7 +19,7 @@ use Rattle.step_spec.specs.Step.{step}
 use Rattle.synchronous_rounds.specs.Cluster.{HeardLetter, after_events, hear_events}
 use Rattle.synchronous_rounds.specs.LedAlone.{AreWithin, IsHolding, IsLeading, StaysWithin, Progress}
 use Rattle.synchronous_rounds.proofs.ActLemmas.{observed, silent_ask, silent_sends, silent_snapshot}
-use Rattle.synchronous_rounds.proofs.Lists.{acts_append}
+use Rattle.step_spec.proofs.Lists.{after_acts-append}
 
 -- ---- a message, but for a promise or an acceptance that counts
 
@@ -146,7 +146,7 @@ free_all self best at p from (message ∷ messages) once state up within leading
     let acts = hear self from message once state in
     let now = after_acts acts state in
     let later = once_after message state acts once in
-    rw (acts_append acts (hear_all self from messages later now) state)
+    rw (after_acts-append acts (hear_all self from messages later now) state)
     (free_all self best at p from messages later now up within.1 (free_hear self best at p from message once state up within.0 leading))
 
 pub free_mail : (self : Identity) (best : List Vote) (at : Progress) (p : ℕ) (mail : List HeardLetter) (state : State) → p ≤ at.prefix → AreWithin at.ballot p mail → IsLeading best None at state → IsLeading best None at (after_events self (hear_events mail) state)

@@ -12,13 +12,12 @@ use Rattle.step_spec.specs.Hear.{Once, hear, hear_all, known_from, line, not_yet
 use Rattle.step_spec.specs.Message.{Message, Known, Snap}
 use Rattle.step_spec.specs.State.{Identity, State, prefix_of}
 use Rattle.step_spec.specs.Step.{Tick, Plan, step}
-use Rattle.step_spec.proofs.Lists.{nothing_in}
+use Rattle.step_spec.proofs.Lists.{nothing_in, after_acts-append}
 use Rattle.agreement.specs.Transition.{identity_of}
 use Rattle.synchronous_rounds.specs.Cluster.{Advice, Cluster, HeardLetter, after_events, cluster_round, hear_events}
 use Rattle.synchronous_rounds.specs.LedAlone.{AreWithin, IsBehind, IsLedAlone, StaysWithin}
 use Rattle.synchronous_rounds.proofs.ActLemmas.{observed, rebased_prefix}
 use Rattle.synchronous_rounds.proofs.FollowerLemmas.{behind_all, behind_hear}
-use Rattle.synchronous_rounds.proofs.Lists.{acts_append}
 use Rattle.synchronous_rounds.specs.CatchUp.{AreTold, IsTold, TellsWhatIsLacked, entries_from, table_and}
 use Rattle.synchronous_rounds.proofs.KeepLemmas.{answer_after, keeps_all, keeps_hear, caught_up_mail, stays_caught_up}
 use Rattle.due_set.proofs.Rising.{Contains-cases as cons_cases}
@@ -76,7 +75,7 @@ learns_entries self b p from slot (entry ∷ entries) back once state all within
     let acts = hear self from (Known slot entry) once state in
     let now = after_acts acts state in
     let later = once_after (Known slot entry) state acts once in
-    rw (acts_append acts (hear_all self from (known_from (slot + 1) entries ++ back) later now) state)
+    rw (after_acts-append acts (hear_all self from (known_from (slot + 1) entries ++ back) later now) state)
     (learns_entries self b p from (slot + 1) entries back later now (omega (arith, all)) within.1
     (behind_hear self b p from (Known slot entry) once state within.0 behind) (learns_entry self from slot entry once state least))
 
@@ -87,7 +86,7 @@ learns_table self b p from slot rows entries back once state all within behind =
     let acts = hear self from (Snap slot rows) once state in
     let now = after_acts acts state in
     let later = once_after (Snap slot rows) state acts once in
-    rw (acts_append acts (hear_all self from (known_from slot entries ++ back) later now) state)
+    rw (after_acts-append acts (hear_all self from (known_from slot entries ++ back) later now) state)
     (learns_entries self b p from slot entries back later now all within.1
     (behind_hear self b p from (Snap slot rows) once state within.0 behind) (takes_table self from slot rows once state))
 
@@ -100,7 +99,7 @@ learns_behind self b p from slot (message ∷ front) rest once state learns with
     let now = after_acts acts state in
     let later = once_after message state acts once in
     let up = keeps_hear self b p from message once state behind in
-    rw (acts_append acts (hear_all self from (front ++ rest) later now) state)
+    rw (after_acts-append acts (hear_all self from (front ++ rest) later now) state)
     (learns_behind self b p from slot front rest later now learns within.1 (behind_hear self b p from message once state within.0 behind) (omega (arith, least, up)))
 
 learns_letter : (self : Identity) (b p from slot : ℕ) (messages : List Message) (once : Once) (state : State) → TellsWhatIsLacked slot p messages → AllByRecursion (StaysWithin b p) messages → IsBehind b p state → slot ≤ prefix_of state → prefix_of (after_acts (hear_all self from messages once state) state) ≡ p

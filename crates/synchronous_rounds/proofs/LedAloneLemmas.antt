@@ -10,8 +10,9 @@ use Rattle.agreement.specs.Transition.{identity_of}
 use Rattle.synchronous_rounds.specs.Cluster.{Advice, Cluster, IsAdvised, HeardLetter, cluster_round, events_at, events_of, hear_events, letters_to}
 use Rattle.synchronous_rounds.specs.LedAlone.{AreWithin, IsBehind, IsLedAlone, StaysWithin}
 use Rattle.synchronous_rounds.proofs.FollowerLemmas.{behind_round}
-use Rattle.synchronous_rounds.proofs.Lists.{all_flat, range_below}
+use Rattle.synchronous_rounds.proofs.Lists.{all_flat}
 use Rattle.synchronous_rounds.proofs.SendLemmas.{IsPlain, letters_from, letters_within}
+use Rattle.step_spec.proofs.OutLemmas.{range_below}
 
 -- no event of a round is a campaign
 pub plain_mail : (now : ℤ) (plan : Plan) (mail : List HeardLetter) → AllByRecursion IsPlain (hear_events mail ++ Tick now plan ∷ [])

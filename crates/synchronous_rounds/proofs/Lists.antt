@@ -1,24 +1,18 @@
 -- What is in lists, and what lists of acts and of events come to.
-use Rattle.std.proofs.Common.{◌≡◌, ℕ, suc, zero, ◌+◌, ◌<◌, ◌≤◌, Bool, true, List, [], ◌∷◌, ◌++◌, eqb, refl, inl, inr, arith, subst, cond}
-use Rattle.std.specs.List.{AllByRecursion, Contains, flat_map, range_with_len}
-use Rattle.std.proofs.lemmas.Bool.{cases_eq, eq-eqb}
-use Rattle.std.proofs.lemmas.List.Elements.{Contains-append_left, Contains-append_right}
+use Rattle.std.proofs.Common.{◌≡◌, ℕ, ◌+◌, Bool, true, List, [], ◌∷◌, ◌++◌, eqb, refl, cond}
+use Rattle.std.specs.List.{AllByRecursion, Contains, flat_map}
+use Rattle.std.proofs.lemmas.Bool.{eq-eqb}
 use Rattle.due_set.specs.Table.{Table}
-use Rattle.step_spec.specs.Act.{Act, Send, after_act}
+use Rattle.step_spec.specs.Act.{Act, Send}
 use Rattle.step_spec.specs.Folds.{after_acts, sent_by, sent_to}
 use Rattle.step_spec.specs.Message.{Message, Only}
 use Rattle.step_spec.specs.State.{Identity, State}
 use Rattle.step_spec.specs.Step.{Event, step}
-use Rattle.step_spec.proofs.Lists.{nothing_in}
 use Rattle.synchronous_rounds.specs.Cluster.{ArePlanned, after_events}
-use Rattle.due_set.proofs.Rising.{Contains-head as in_first, Contains-tail as in_rest, Contains-cases as cons_cases}
+use Rattle.due_set.proofs.Rising.{Contains-head as in_first, Contains-tail as in_rest}
 use Rattle.step_spec.proofs.OutLemmas.{flat_has as flat_in}
 
 -- ---- acts and events, one part after another
-
-pub acts_append : (xs ys : List Act) (state : State) → after_acts (xs ++ ys) state ≡ after_acts ys (after_acts xs state)
-acts_append [] ys state = refl
-acts_append (act ∷ acts) ys state = acts_append acts ys (after_act act state)
 
 pub events_append : (self : Identity) (xs ys : List Event) (state : State) → after_events self (xs ++ ys) state ≡ after_events self ys (after_events self xs state)
 events_append self [] ys state = refl
@@ -29,22 +23,6 @@ planned_behind self table [] ys state planned = planned
 planned_behind self table (x ∷ xs) ys state planned = planned_behind self table xs ys (after_acts (step self x state) state) planned.1
 
 -- ---- lists
-
--- a number of a range is in it
-pub range_in : (from n k : ℕ) → from ≤ k → k < from + n → Contains (range_with_len from n) k
-range_in from zero k least within = absurd (omega (arith, least, within))
-range_in from (suc n) k least within = elim (cases_eq from k) [
-  | inl same ↦ subst (λ x. Contains (range_with_len from (suc n)) x) same (in_first from (range_with_len (from + 1) n))
-  | inr other ↦ in_rest from (range_with_len (from + 1) n) k (range_in (from + 1) n k (omega (arith, least, other)) (omega (arith, within)))
-]
-
--- a number of a range is below its end
-pub range_below : (from n k : ℕ) → Contains (range_with_len from n) k → k < from + n
-range_below from zero k has = nothing_in has
-range_below from (suc n) k has = elim (cons_cases from (range_with_len (from + 1) n) k has) [
-  | inl same ↦ omega (arith, same)
-  | inr later ↦ let rest = range_below (from + 1) n k later in omega (arith, rest)
-]
 
 -- what holds of each in two lists holds of each in both
 pub all_join : {X : Type 0} (P : X → Type 0) → (xs ys : List X) → AllByRecursion P xs → AllByRecursion P ys → AllByRecursion P (xs ++ ys)

@@ -17,9 +17,10 @@ use Rattle.synchronous_rounds.specs.Cluster.{Advice, Cluster, HeardLetter, after
 use Rattle.synchronous_rounds.specs.Flights.{IsAccepted, IsAsked}
 use Rattle.synchronous_rounds.specs.LedAlone.{AreWithin, IsBehind, IsLedAlone, Occurs}
 use Rattle.synchronous_rounds.proofs.FollowerLemmas.{behind_all, behind_answer, votes_all}
-use Rattle.synchronous_rounds.proofs.Lists.{range_in, sent_in}
+use Rattle.synchronous_rounds.proofs.Lists.{sent_in}
 use Rattle.due_set.proofs.Rising.{Contains-head as in_first, Contains-cases as cons_cases}
 use Rattle.step_spec.proofs.OutLemmas.{flat_has as flat_in}
+use Rattle.step_spec.proofs.ListLemmas.{in_range_from}
 
 -- ---- mails
 
@@ -59,7 +60,7 @@ occurs_after self q xs ys state message occurs =
 pub occurs_next : (members : ℕ) (now : ℤ) (advice : ℕ → Advice) (answers : ℕ → Option SchedRow) (cluster : Cluster) (from to : ℕ) (message : Message) → from < members → Occurs (letters_to (identity_of members from) to (events_at now advice cluster from) (cluster.replicas from)) from message → Occurs ((cluster_round members now advice answers cluster).mails to) from message
 occurs_next members now advice answers cluster from to message below occurs = record {
   letter = occurs.letter;
-  there = flat_in (λ q. letters_to (identity_of members q) to (events_at now advice cluster q) (cluster.replicas q)) (range_with_len 0 members) from occurs.letter (range_in 0 members from (omega arith) (omega (arith, below))) occurs.there;
+  there = flat_in (λ q. letters_to (identity_of members q) to (events_at now advice cluster q) (cluster.replicas q)) (range_with_len 0 members) from occurs.letter (in_range_from 0 members from (omega arith) (omega (arith, below))) occurs.there;
   is_from = occurs.is_from;
   has = occurs.has;
 }

@@ -19,7 +19,7 @@ use Rattle.agreement.specs.Transition.{identity_of}
 use Rattle.synchronous_rounds.specs.Cluster.{Advice, Cluster, HeardLetter, IsAdvised, after_events, answer_events, before_tick, cluster_round, events_at, hear_events, letters_to}
 use Rattle.synchronous_rounds.specs.LedAlone.{AreWithin, StaysWithin, TellsBelow}
 use Rattle.synchronous_rounds.proofs.ActLemmas.{observed}
-use Rattle.synchronous_rounds.proofs.Lists.{acts_append, all_flat, planned_behind, range_below}
+use Rattle.synchronous_rounds.proofs.Lists.{all_flat, planned_behind}
 use Rattle.synchronous_rounds.proofs.RoundLemmas.{round_after, ticked}
 use Rattle.synchronous_rounds.proofs.LedAloneLemmas.{plain_round}
 use Rattle.synchronous_rounds.proofs.SendLemmas.{letters_within}
@@ -28,6 +28,8 @@ use Rattle.synchronous_rounds.proofs.BoundLemmas.{IsNoAcceptance, short_line}
 use Rattle.synchronous_rounds.proofs.DecidedLemmas.{planned_front}
 use Rattle.synchronous_rounds.proofs.ReplyLemmas.{answers_steady, tick_steady}
 use Rattle.synchronous_rounds.proofs.TermLemmas.{sound_events}
+use Rattle.step_spec.proofs.OutLemmas.{range_below}
+use Rattle.step_spec.proofs.Lists.{after_acts-append}
 
 -- ---- a message
 
@@ -87,7 +89,7 @@ low_all self top from (message ∷ messages) once state named low =
     let acts = hear self from message once state in
     let now = after_acts acts state in
     let later = once_after message state acts once in
-    rw (acts_append acts (hear_all self from messages later now) state)
+    rw (after_acts-append acts (hear_all self from messages later now) state)
     (low_all self top from messages later now named.1 (low_line self top from message once (observed (ballot_in message) state) named.0 (low_observed top (ballot_in message) state low)))
 
 low_mail : (self : Identity) (top : ℕ) (mail : List HeardLetter) (state : State) → AreNamed top mail → promised_in state.kept ≤ top → promised_in (after_events self (hear_events mail) state).kept ≤ top

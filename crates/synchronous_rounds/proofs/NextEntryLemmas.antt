@@ -18,15 +18,14 @@ use Rattle.step_spec.specs.Hear.{Once, hear, hear_all, line, not_yet, on_known, 
 use Rattle.step_spec.specs.Message.{Message, Prepare, Promise, Accept, Accepted, Nack, Known, AskFrom, Snap, Lead, Mention}
 use Rattle.step_spec.specs.State.{Identity, State, prefix_of}
 use Rattle.step_spec.specs.Step.{step}
-use Rattle.step_spec.proofs.Lists.{nothing_in}
+use Rattle.step_spec.proofs.Lists.{nothing_in, after_acts-append}
 use Rattle.synchronous_rounds.specs.Cluster.{HeardLetter, after_events, hear_events}
 use Rattle.synchronous_rounds.specs.LedAlone.{AreFrom, AreWithin, IsHolding, Occurs, StaysWithin}
 use Rattle.synchronous_rounds.proofs.ActLemmas.{observed, rebased_learned, rebased_prefix}
-use Rattle.synchronous_rounds.proofs.BeginLemmas.{decides}
 use Rattle.synchronous_rounds.proofs.LeaderLemmas.{leading_observed}
-use Rattle.synchronous_rounds.proofs.Lists.{acts_append}
 use Rattle.synchronous_rounds.proofs.CandidateLemmas.{Among, AndNow, Bid, Competes, Promised, competes_fewer, competes_hear, gathers_observed}
 use Rattle.due_set.proofs.Rising.{Contains-cases as cons_cases}
+use Rattle.launch_machine.proofs.ExistLemmas.{one_applied}
 
 -- the same campaign, of one that has learned the next entry, and has these rows and this base
 abbrev pub ahead : Bid → List JobRow → ℕ → Bid
@@ -135,7 +134,7 @@ not_more bid at counted from message state other competes =
 hears_entry : (bid : Bid) (counted : ℕ → Type 0) (sound : IsSound bid.at.table) (from : ℕ) (entry : Entry) (once : Once) (state : State) → Competes bid counted state → CompetesAhead bid (AndNow bid counted from (Known bid.at.prefix entry)) (after_acts (hear bid.self from (Known bid.at.prefix entry) once state) state)
 unfolding hear
 hears_entry bid counted sound from entry once state competes =
-    let next = decides bid.at.table sound bid.at.rows entry in
+    let next = one_applied bid.at.table sound bid.at.rows entry in
     let learned = learns_it bid counted next.0 from entry once (observed 0 state) next.1 (competes_observed bid counted 0 state (omega arith) competes) in
     (next.0, bid.at.base, not_more bid (ahead bid next.0 bid.at.base) counted from (Known bid.at.prefix entry) _ (λ votes same. cc) learned)
 
@@ -182,7 +181,7 @@ may_learn_all bid counted told sound from (message ∷ messages) once state smal
     let later = once_after message state acts once in
     let more : ℕ → Type 0 = AndNow bid counted from message in
     let tells : Type 0 = told ⊎ TellsNext bid message in
-    rw (acts_append acts (hear_all bid.self from messages later now) state)
+    rw (after_acts-append acts (hear_all bid.self from messages later now) state)
     (may_learn_fewer bid (λ q. more q ⊎ Among bid from messages q) (λ q. counted q ⊎ Among bid from (message ∷ messages) q) (tells ⊎ ToldIn bid messages) (told ⊎ ToldIn bid (message ∷ messages)) _
     (λ q is. elim is [
       | inl old ↦ inl (inl old)

@@ -31,16 +31,13 @@ use Rattle.synchronous_rounds.proofs.MailLemmas.{occurs_letter}
 use Rattle.synchronous_rounds.proofs.RoundLemmas.{round_after, round_occurs, round_planned}
 use Rattle.synchronous_rounds.proofs.TickLemmas.{holds_rebased, long_is}
 use Rattle.due_set.proofs.Rising.{Contains-head as in_first}
+use Rattle.step_spec.proofs.DeltaLemmas.{tick-long}
 
 -- ---- the acts of a tick
 
 pub short_tick : (self : Identity) (now : ℤ) (rows : List JobRow) (wanted : Intent) (state : State) → is_long state ≡ false → tick self now rows wanted state ≡ tick_of self now wanted state state.term
 unfolding tick
 short_tick self now rows wanted state short = rw short refl
-
-pub long_tick : (self : Identity) (now : ℤ) (rows : List JobRow) (wanted : Intent) (state : State) → is_long state ≡ true → tick self now rows wanted state ≡ Rebase (prefix_of state) rows ∷ []
-unfolding tick
-long_tick self now rows wanted state long = rw long refl
 
 -- a call asks for itself, and changes nothing
 pub one_call : (row : SchedRow) → calls_of (Call row ∷ []) ≡ row ∷ []
@@ -86,7 +83,7 @@ pub tick_outcome : (members leader : ℕ) (best : List Vote) (at : Progress) (no
 unfolding step
 tick_outcome members leader best at now advice answers cluster member few more sound advised leading =
     elim (cases_Bool (is_long state)) [
-      | inl long ↦ rebases (rebased long (long_tick self now plan.rows plan.intent state long))
+      | inl long ↦ rebases (rebased long (tick-long self now plan.rows plan.intent state long))
       | inr short ↦ goes (short_tick self now plan.rows plan.intent state short) (tick_begins self at best sound now plan.intent state asked leading)
     ]
   where

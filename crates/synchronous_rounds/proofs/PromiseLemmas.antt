@@ -24,7 +24,7 @@ use Rattle.synchronous_rounds.specs.LedAlone.{AreWithin, IsHolding, Occurs, Prog
 use Rattle.synchronous_rounds.proofs.ActLemmas.{observed}
 use Rattle.synchronous_rounds.proofs.FollowerLemmas.{behind_tick}
 use Rattle.synchronous_rounds.proofs.LeaderLemmas.{hold_line}
-use Rattle.synchronous_rounds.proofs.Lists.{acts_append, events_append}
+use Rattle.synchronous_rounds.proofs.Lists.{events_append}
 use Rattle.synchronous_rounds.proofs.MailLemmas.{letters_append, occurs_left, occurs_next, occurs_right}
 use Rattle.synchronous_rounds.proofs.RoundLemmas.{round_after, round_planned}
 use Rattle.synchronous_rounds.specs.Again.{EndsWithCampaign, HasCampaignedAgain, HasPromisedAgain, HaveAllPromised}
@@ -35,6 +35,7 @@ use Rattle.synchronous_rounds.proofs.EarlyLemmas.{early_mail}
 use Rattle.synchronous_rounds.proofs.ReplyLemmas.{answers_steady, hears_campaign, tick_steady}
 use Rattle.synchronous_rounds.proofs.TermLemmas.{sound_events}
 use Rattle.due_set.proofs.Rising.{Contains-head as in_first}
+use Rattle.step_spec.proofs.Lists.{after_acts-append}
 
 -- ---- one of the others: other letters, and then the campaign
 
@@ -152,7 +153,7 @@ stays_all self first heard top best at from (message ∷ messages) once state ab
     let acts = hear self from message once state in
     let now = after_acts acts state in
     let later = once_after message state acts once in
-    rw (acts_append acts (hear_all self from messages later now) state)
+    rw (after_acts-append acts (hear_all self from messages later now) state)
     (stays_all self first heard top best at from messages later now above within.1 (stays_hear self first heard top best at from message once state above within.0 holding))
 
 stays_mail : (self : Identity) (first heard top : ℕ) (best : List Vote) (at : Progress) (mail : List HeardLetter) (state : State) → top < at.ballot → AreWithin top at.prefix mail → IsHolding (Candidate at.ballot first heard best) at state → IsHolding (Candidate at.ballot first heard best) at (after_events self (hear_events mail) state)

@@ -1,6 +1,5 @@
 -- Two replicas over a table without jobs, of which one leads alone and is idle; and rounds after it.
 use Rattle.std.proofs.Common.{◌≡◌, ℕ, zero, suc, ◌+◌, ◌<◌, ◌≤◌, List, [], ◌∷◌, ◌++◌, length, Option, None, Some, ℤ, refl, inl, inr, arith, lit<}
-use Rattle.std.specs.List.{slice_get}
 use Rattle.std.proofs.lemmas.List.Elements.{All-nil}
 use Rattle.paxos_base.specs.Vote.{votes_from}
 use Rattle.paxos_base.specs.declared.durable.Durable.{Durable}
@@ -26,14 +25,12 @@ use Rattle.synchronous_rounds.specs.Cluster.{Advice, ArePlanned, Cluster, HeardL
 use Rattle.synchronous_rounds.specs.Rounds.{IsAnswerTo}
 use Rattle.synchronous_rounds.specs.LedAlone.{IsBehind, Progress}
 use Rattle.synchronous_rounds.specs.CatchUp.{AreFiveRounds, IsIdle, IsRoundAt}
+use Rattle.step_spec.proofs.ListLemmas.{nothing_found}
 
 -- ---- the table
 
 abbrev bare : Table
 bare = record { window = busy.window; grace = 0; zones = []; jobs = [] }
-
-nothing_found : {X : Type 0} {x : X} (k : ℕ) → slice_get [] k ≡ Some x → ⊥
-nothing_found k is = cc
 
 bare_sound : IsSound bare
 bare_sound = record {

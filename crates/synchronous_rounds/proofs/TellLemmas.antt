@@ -25,11 +25,11 @@ use Rattle.synchronous_rounds.specs.Rounds.{IsFreeNow}
 use Rattle.synchronous_rounds.specs.LedAlone.{AreWithin, IsLeading, Occurs, Progress, StaysWithin}
 use Rattle.synchronous_rounds.proofs.ActLemmas.{observed}
 use Rattle.synchronous_rounds.proofs.LeaderLemmas.{free_all, free_hear, leading_observed}
-use Rattle.synchronous_rounds.proofs.Lists.{range_in}
 use Rattle.synchronous_rounds.specs.CatchUp.{AreTold, HaveAsked, IsPieceOf, TellsWhatIsLacked, entries_from, table_and}
 use Rattle.synchronous_rounds.proofs.KeepLemmas.{answer_after, keeps_mail, caught_up_mail}
 use Rattle.due_set.proofs.Rising.{Contains-head as in_first, Contains-cases as cons_cases}
 use Rattle.step_spec.proofs.OutLemmas.{flat_has as flat_in}
+use Rattle.step_spec.proofs.ListLemmas.{in_range_from}
 
 -- ---- pieces
 
@@ -358,7 +358,7 @@ told_next members leader best at now advice answers cluster free asked who below
               slot = lacks.slot;
               short = rw after (omega (arith, short, up));
               letter = tells.letter;
-              there = flat_in (λ q. letters_to (identity_of members q) who (events_at now advice cluster q) (cluster.replicas q)) (range_with_len 0 members) leader tells.letter (range_in 0 members leader (omega arith) (omega (arith, led_alone.member))) (rw free.alone tells.there);
+              there = flat_in (λ q. letters_to (identity_of members q) who (events_at now advice cluster q) (cluster.replicas q)) (range_with_len 0 members) leader tells.letter (in_range_from 0 members leader (omega arith) (omega (arith, led_alone.member))) (rw free.alone tells.there);
               is_from = tells.is_from;
               tells = tells.tells;
             })

@@ -1,16 +1,13 @@
 -- How many bases the replicas have kept: legal rows with the same turns have kept as many.
-use Rattle.std.proofs.Common.{◌≡◌, ℕ, List, [], ◌∷◌, ◌++◌, map, fold, None, Some, refl, sym, ap, ◌∙◌, subst, append_assoc}
+use Rattle.std.proofs.Common.{◌≡◌, ℕ, List, [], ◌∷◌, ◌++◌, map, fold, refl, sym, ap, ◌∙◌, subst, append_assoc}
 use Rattle.std.proofs.lemmas.List.Sums.{fold-append}
 use Rattle.due_set.specs.Table.{Table}
 use Rattle.launch_machine.specs.Clerk.{first_rows}
 use Rattle.paxos_base.specs.declared.durable.Delta.{Delta}
-use Rattle.step_spec.specs.Folds.{deltas_of}
-use Rattle.step_spec.specs.Step.{Event}
-use Rattle.history.specs.Book.{Row, Standing, acts_at, after_row, standing_after}
+use Rattle.history.specs.Book.{Row, Standing, after_row, standing_after}
 use Rattle.history.specs.Legal.{IsLegal, MayFollow}
 use Rattle.history.specs.declared.turn.Turn.{Turn}
-use Rattle.history.specs.declared.turn.Turn.TheVariants.{Did, Stopped, Restarted, Arrived}
-use Rattle.history.proofs.Keeping.{one_event, stands_next}
+use Rattle.history.proofs.Keeping.{stands_next}
 use Rattle.script_semantics.specs.Free.{after_all_posted, after_posted}
 use Rattle.script_semantics.specs.Situation.{Situation, after_turn, after_turns, bases_kept, changes_in, first_situation}
 use Rattle.world_law.specs.declared.row.BookRow.{BookRow}
@@ -20,23 +17,13 @@ use Rattle.world_free.specs.Plan.{ArePlayed, FreePlan, SharedBook}
 use Rattle.history.proofs.FrontLemmas.{front_legal}
 use Rattle.world_free.proofs.Played.{begun_stands, played_turns}
 use Rattle.history.proofs.FrontLemmas.{follows_there as may_next}
+use Rattle.script_semantics.proofs.TurnLemmas.{same_changes}
 
 -- how many bases the replicas have kept by some rows
 abbrev pub bases_in : FreePlan → List Row → ℕ → ℕ
 bases_in plan rows = (after_turns plan.book.members (first_situation plan.book.members plan.table) rows).bases
 
 -- ---- rows with the same turns
-
--- the change of a turn is settled by the turn
-changes_alike : (n : ℕ) (table : Table) (s : Standing) (turn : Turn) (one other : Row) → MayFollow n table s turn one → MayFollow n table s turn other
-    → changes_in n s turn one.event ≡ changes_in n s turn other.event
-changes_alike n table s (Did who cause made) one other a b =
-    ap (λ (event : Event). deltas_of (acts_at n s who event)) (one_event n table s who cause one.event other.event a.0 b.0)
-changes_alike n table s (Stopped who None kept) one other a b = refl
-changes_alike n table s (Stopped who (Some cause) kept) one other a b =
-    ap (λ (event : Event). deltas_of (acts_at n s who event)) (one_event n table s who cause one.event other.event a.0 b.0)
-changes_alike n table s (Restarted who) one other a b = refl
-changes_alike n table s (Arrived number) one other a b = refl
 
 -- Situations after the rows before, in which the same stands and as many bases were kept.
 record AreEven (n : ℕ) (table : Table) (one other : List Row) (first second : Situation) : Type 0 where
@@ -56,7 +43,7 @@ even_next n table one other first second row next even turn a b = record {
       ∙ ap (λ (t : Turn). after_row n first.standing t next.event next.letters) turn
       ∙ ap (λ (s : Standing). after_row n s next.turn next.event next.letters) even.stands;
   bases =
-      ap (λ (changes : List Delta). bases_kept row.turn changes first.bases) (changes_alike n table first.standing row.turn row next mine theirs)
+      ap (λ (changes : List Delta). bases_kept row.turn changes first.bases) (same_changes n table first.standing row.turn row next mine theirs)
       ∙ ap (λ (t : Turn). bases_kept t (changes_in n first.standing t next.event) first.bases) turn
       ∙ ap (λ (s : Standing). bases_kept next.turn (changes_in n s next.turn next.event) first.bases) even.stands
       ∙ ap (bases_kept next.turn (changes_in n second.standing next.turn next.event)) even.bases;

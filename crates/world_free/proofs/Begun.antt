@@ -29,7 +29,7 @@ use Rattle.world_free.specs.Seats.{IsSeatAt}
 use Rattle.world_free.specs.declared.job.FreeJob.{FreeJob}
 use Rattle.world_free.specs.declared.job.FreeMail.{FreeMail}
 use Rattle.world_free.specs.declared.job.Setting.{Setting}
-use Rattle.world_free.proofs.JobLemmas.{mapped_at}
+use Rattle.step_spec.proofs.ListLemmas.{mapped_at}
 
 -- rows beside none are none
 none_beside : {A B : Type 0} (R : A → B → Type 0) (ys : List B) → AllZip R [] ys → ys ≡ []

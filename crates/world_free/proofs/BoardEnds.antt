@@ -25,8 +25,9 @@ use Rattle.world_free.specs.Seats.{IsSeatAt}
 use Rattle.world_free.specs.declared.job.FreeJob.{FreeJob}
 use Rattle.world_free.specs.declared.job.Setting.{Setting}
 use Rattle.world_free.proofs.Handed.{AreHanded, GoesTo, begun, lent}
-use Rattle.world_free.proofs.JobLemmas.{mapped_at, some_at}
 use Rattle.world_free.proofs.Showing.{same_after, shows_none, shows_with_others}
+use Rattle.step_spec.proofs.ListLemmas.{mapped_at}
+use Rattle.due_set.proofs.SoundLemmas.{at_place}
 
 -- a seat that has had no turn has shown nothing more
 pub begins_shown : (plan : FreePlan) (book : SharedBook) (seat : Seat) (board : Option Writing) → plan.book.members ≤ 7 → IsNewSeat book 0 seat
@@ -102,10 +103,10 @@ module _ {D M : Type 0} (view : DiskView D) (table : Table) (parts : Bundle (Nod
       begun_jobs = begun view table parts book setting jobs handed rows situation at now is
 
       old : (job : FreeJob D) × (slice_get now 0 ≡ Some job)
-      old = some_at now 0 (omega (arith, some, count, ap length is))
+      old = at_place now 0 (omega (arith, some, count, ap length is))
 
       ended : (job : FreeJob D) × (slice_get after_jobs 0 ≡ Some job)
-      ended = some_at after_jobs 0 (omega (arith, some, count, ap length is, long))
+      ended = at_place after_jobs 0 (omega (arith, some, count, ap length is, long))
 
       old_there : slice_get jobs 0 ≡ Some old.0
       old_there = ap (λ (l : List (FreeJob D)). slice_get l 0) (sym is) ∙ old.1

@@ -18,11 +18,12 @@ use Rattle.history.specs.Book.{Row, standing_after, votes_in}
 use Rattle.history.specs.Legal.{IsLegal}
 use Rattle.history.proofs.Agreement.{book_log}
 use Rattle.history.proofs.FrontLemmas.{front_legal}
-use Rattle.launch_safety.proofs.LogLemmas.{log_goes_on, stands}
+use Rattle.launch_safety.proofs.LogLemmas.{log_goes_on}
 use Rattle.script_semantics.specs.Free.{after_all_posted, after_posted, is_turn_of}
 use Rattle.script_semantics.specs.Others.{AreOthers}
 use Rattle.script_semantics.specs.Situation.{Situation}
 use Rattle.world_free.specs.Board.{IsOfBook, Reach, highest_after, reach_after_row}
+use Rattle.history.proofs.BookLemmas.{stands}
 
 -- ---- a launch table of a front of a book
 

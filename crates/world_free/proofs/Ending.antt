@@ -27,7 +27,9 @@ use Rattle.world_free.specs.declared.job.Setting.{Setting}
 use Rattle.world_free.proofs.Closed.{IsClosed, after_of, bases_there, job_mail, job_node, job_takes, more_of, named_there, runner_looked, since_last, stands_behind, stands_there}
 use Rattle.world_free.proofs.EndLemmas.{drop_front, latest_of, none_earlier}
 use Rattle.world_free.proofs.Gone.{cuts_stay}
-use Rattle.world_free.proofs.JobLemmas.{mapped_at, mapped_from, some_at}
+use Rattle.world_free.proofs.JobLemmas.{mapped_from}
+use Rattle.step_spec.proofs.ListLemmas.{mapped_at}
+use Rattle.due_set.proofs.SoundLemmas.{at_place}
 
 module _ {D : Type 0} (view : DiskView D) where
   -- the seat of a job, whether its replica runs or not
@@ -81,7 +83,7 @@ module _ {D : Type 0} (view : DiskView D) where
       free_part = record {
         named = named_there plan (seats_of book) seats new.book closed rows begins.at plan.book.members members;
         each = λ who member.
-            let one = some_at jobs who (omega (arith, member, members, count)) in
+            let one = at_place jobs who (omega (arith, member, members, count)) in
             job_takes plan (seats_of book) seats new.book closed rows begins.at view book who one.0 (seat_there who one.0 one.1)
             (run who one.0 one.1);
         is = refl;
@@ -146,7 +148,7 @@ module _ {D : Type 0} (view : DiskView D) where
           mail_of_it : (who : ℕ) (mail : MemberMail) → slice_get new.mail.members.items who ≡ Some mail → IsMailOf new.book.letters after who [] mail
           mail_of_it who mail there =
               let within = slice_get_within new.mail.members.items who mail there in
-              let one = some_at jobs who (omega (arith, within, as_many, count, members, closed.members)) in
+              let one = at_place jobs who (omega (arith, within, as_many, count, members, closed.members)) in
               let kept : slice_get mails who ≡ Some one.0.mail = ap (λ l. slice_get l who) are.mails_are ∙ mapped_at mail_in jobs who one.0 one.1 in
               job_mail plan (seats_of book) seats new.book closed rows begins.at view book who one.0 (seat_there who one.0 one.1)
               (run who one.0 one.1) mail

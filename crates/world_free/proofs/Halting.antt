@@ -44,10 +44,10 @@ use Rattle.world_free.specs.Seats.{rows_by}
 use Rattle.world_free.specs.declared.job.FreeJob.{FreeJob}
 use Rattle.world_free.proofs.Gone.{broken_next, turn_halts}
 use Rattle.world_free.proofs.Letters.{no_letters}
-use Rattle.world_free.proofs.Lists.{zip_join}
 use Rattle.world_free.proofs.Played.{played_stand, situation_stands}
 use Rattle.world_free.proofs.Since.{IsHere, Lately, bases_here, changes_before, changes_seen, few_here, input_here, is_then, lately, left_by, still_at, takes_here, told_here}
 use Rattle.history.proofs.Standings.{fact_here, waits_stopped}
+use Rattle.step_spec.proofs.Lists.{AllZip-append}
 
 -- ---- what a stop leaves
 
@@ -149,7 +149,7 @@ module _ {D : Type 0} (view : DiskView D) (plan : FreePlan) (book : SharedBook) 
     legal = subst (λ n. IsLegal n plan.table (here.begun ++ (here.more ++ turn.row ∷ []))) members
         (subst (λ all. IsLegal state.members plan.table all) (append_assoc here.begun here.more (turn.row ∷ [])) behind_then.legal);
     turns = here.are.turns;
-    each = zip_join HasTurnOf (stopper.after ++ gone) (row_now ∷ []) here.more (turn.row ∷ []) here.are.each (turn.is, tt);
+    each = AllZip-append HasTurnOf (stopper.after ++ gone) (row_now ∷ []) here.more (turn.row ∷ []) here.are.each (turn.is, tt);
   }
 
   -- the replica keeps what the node keeps

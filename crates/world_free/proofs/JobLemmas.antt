@@ -18,6 +18,7 @@ use Rattle.world_free.specs.Plan.{Seat, SharedBook, plan_of}
 use Rattle.world_free.specs.declared.job.FreeJob.{FreeJob}
 use Rattle.world_free.specs.declared.job.FreeMail.{FreeMail}
 use Rattle.world_free.specs.declared.job.Setting.{Setting}
+use Rattle.step_spec.proofs.ListLemmas.{first_left}
 
 -- ---- lists
 
@@ -29,30 +30,16 @@ found_last [] last (suc place) x is = absurd cc
 found_last (y ∷ ys) last zero x is = inl is
 found_last (y ∷ ys) last (suc place) x is = ⊎_elim (λ old. inl old) (λ new. inr (omega (arith, new.0), new.1)) (found_last ys last place x is)
 
-pub mapped_at : {X Y : Type 0} (f : X → Y) (xs : List X) (place : ℕ) (x : X) → slice_get xs place ≡ Some x → slice_get (map f xs) place ≡ Some (f x)
-mapped_at f [] place x is = absurd cc
-mapped_at f (y ∷ ys) zero x is = ap (λ z. Some (f z)) (let same : y ≡ x = cc in same)
-mapped_at f (y ∷ ys) (suc place) x is = mapped_at f ys place x is
-
 pub mapped_from : {X Y : Type 0} (f : X → Y) (xs : List X) (place : ℕ) (y : Y) → slice_get (map f xs) place ≡ Some y
     → (x : X) × (slice_get xs place ≡ Some x) × (f x ≡ y)
 mapped_from f [] place y is = absurd cc
 mapped_from f (x ∷ xs) zero y is = (x, refl, (let same : f x ≡ y = cc in same))
 mapped_from f (x ∷ xs) (suc place) y is = mapped_from f xs place y is
 
-pub some_at : {X : Type 0} (xs : List X) (place : ℕ) → place < length xs → (x : X) × (slice_get xs place ≡ Some x)
-some_at [] place within = absurd (omega (arith, within))
-some_at (x ∷ xs) zero within = (x, refl)
-some_at (x ∷ xs) (suc place) within = some_at xs place (omega (arith, within))
-
 pub got_at : {X : Type 0} (xs : List X) (place : ℕ) (none x : X) → slice_get xs place ≡ Some x → slice_index_or xs place none ≡ x
 got_at [] place none x is = absurd cc
 got_at (y ∷ ys) zero none x is = let same : y ≡ x = cc in same
 got_at (y ∷ ys) (suc place) none x is = got_at ys place none x is
-
-first_left : {X : Type 0} (left : List X) (x : X) → 0 < length left → x ≡ slice_index_or left 0 x → left ≡ x ∷ remove left 0
-first_left [] x some is = absurd (omega (arith, some))
-first_left (first ∷ rest) x some is = ap (λ y. y ∷ rest) (sym is)
 
 none_left : {X : Type 0} (all had left : List X) → all ≡ had ++ left → length all ≡ length had → all ≡ had
 none_left all had [] parts count = parts ∙ append-nil had

@@ -44,11 +44,11 @@ use Rattle.world_free.specs.declared.job.FreeJob.{FreeJob}
 use Rattle.world_free.specs.declared.job.FreeMail.{FreeMail}
 use Rattle.world_free.proofs.Gone.{cuts_stay, did_posts, gone_next, in_mail, turn_runs}
 use Rattle.world_free.proofs.Letters.{coming_in_two, coming_is_sent, letters_come}
-use Rattle.world_free.proofs.Lists.{zip_join}
 use Rattle.world_free.proofs.Played.{played_stand, situation_stands}
 use Rattle.world_free.proofs.Since.{IsHere, Lately, changes_before, changes_seen, few_here, is_then, lately, left_by, looked_here, still_at, takes_here, told_here, two}
 use Rattle.history.proofs.Standings.{fact_here}
 use Rattle.step_spec.proofs.ListLemmas.{found_still as found_more}
+use Rattle.step_spec.proofs.Lists.{AllZip-append}
 
 module _ {D : Type 0} (view : DiskView D) (plan : FreePlan) (book : SharedBook) (who taken : ℕ) (step : Taken) (job : FreeJob D)
     (stepper : IsStepper view plan book who taken step job) (gone : List BookRow) (others : rows_by who gone ≡ []) (state : BookState)
@@ -117,7 +117,7 @@ module _ {D : Type 0} (view : DiskView D) (plan : FreePlan) (book : SharedBook) 
       legal = subst (λ n. IsLegal n plan.table (here.begun ++ (here.more ++ turn.row ∷ []))) members_then
           (subst (λ all. IsLegal book_then.members plan.table all) (append_assoc here.begun here.more (turn.row ∷ [])) behind_then.legal);
       turns = here.are.turns;
-      each = zip_join HasTurnOf (stepper.after ++ gone) (row_now ∷ []) here.more (turn.row ∷ []) here.are.each (turn.is, tt);
+      each = AllZip-append HasTurnOf (stepper.after ++ gone) (row_now ∷ []) here.more (turn.row ∷ []) here.are.each (turn.is, tt);
     }
 
     pub played_then : ArePlayedRows plan rows_then

@@ -18,12 +18,6 @@ zip_split R (x ∷ front) back (y ∷ all) each =
     let rest = zip_split R front back all each.1 in
     record { one = y ∷ rest.one; other = rest.other; parts = ap (λ l. y ∷ l) rest.parts; first = (each.0, rest.first); second = rest.second }
 
-pub zip_join : {A B : Type 0} (R : A → B → Type 0) (front back : List A) (one other : List B) → AllZip R front one → AllZip R back other → AllZip R (front ++ back) (one ++ other)
-zip_join R [] back [] other first second = second
-zip_join R [] back (y ∷ one) other first second = absurd first
-zip_join R (x ∷ front) back [] other first second = absurd first
-zip_join R (x ∷ front) back (y ∷ one) other first second = (first.0, zip_join R front back one other first.1 second)
-
 -- a list beside one row has one
 pub zip_one : {A B : Type 0} (R : A → B → Type 0) (x : A) (ys : List B) → AllZip R (x ∷ []) ys → (y : B) × (ys ≡ y ∷ []) × R x y
 zip_one R x [] each = absurd each

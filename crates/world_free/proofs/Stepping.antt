@@ -1,12 +1,9 @@
 -- A replica takes the step of its next turn beside the shared book.
-use Rattle.std.proofs.Common.{◌≡◌, ℕ, ◌<◌, ◌≤◌, ◌&&◌, not, Bool, true, false, if◌then◌else◌, List, [], ◌∷◌, ◌++◌, Some, None, Option, map, refl, sym, ap, ◌∙◌, subst, ℤ, ◌<ℤ◌, zero, suc, arith}
+use Rattle.std.proofs.Common.{◌≡◌, ℕ, ◌<◌, ◌≤◌, ◌&&◌, not, Bool, true, false, if◌then◌else◌, List, [], ◌∷◌, ◌++◌, Some, None, Option, map, refl, sym, ap, ◌∙◌, subst, ℤ, zero, suc, arith}
 use Rattle.std.specs.List.{Contains, slice_get}
 use Rattle.std.specs.Option.{option_to_list}
 use Rattle.std.proofs.lemmas.List.{append-nil}
-use Rattle.std.proofs.lemmas.Int.{clamps, ints}
-use Rattle.zone_minutes.specs.Window.{IsInWindow}
 use Rattle.zone_minutes.specs.declared.minute.Minute.{Minute}
-use Rattle.zone_minutes.specs.declared.minute.Window.{Window}
 use Rattle.disk_model.specs.declared.armed.Arm.{Arm}
 use Rattle.disk_model.specs.View.{DiskView}
 use Rattle.paxos_base.specs.declared.durable.Delta.{Delta}
@@ -43,9 +40,7 @@ use Rattle.world_free.specs.declared.job.FreeJob.{FreeJob}
 use Rattle.world_free.proofs.BaseLemmas.{bases_still, situation_bases}
 use Rattle.world_free.proofs.Played.{situation_stands}
 use Rattle.due_set.proofs.Rising.{Contains-head as in_first}
-
-clock_inside : (window : Window) (at skew : ℤ) → window.from.0 <ℤ window.until.0 → IsInWindow window (clock_reading window at skew).0
-clock_inside window at skew ordered = record { since = omega (arith, ints, clamps); before = omega (arith, ints, clamps) }
+use Rattle.script_semantics.proofs.RoundLemmas.{clock_inside}
 
 -- ---- what the next cause says
 

@@ -14,7 +14,7 @@ use Rattle.world_law.specs.Book.{BookState}
 use Rattle.world_steps.specs.Steps.{IsBeside, WasToldOf, causes_of, letters_heard_in}
 use Rattle.world_rounds.proofs.RoundLemmas.{idle_beside}
 use Rattle.world_rounds.proofs.RoundsOfAll.{performed, put_down}
-use Rattle.world_rounds.proofs.StepsAt.{cases_number, get_set_here, get_set_there}
+use Rattle.world_rounds.proofs.StepsAt.{get_set_here, get_set_there}
 use Rattle.world_rounds.proofs.Worlds.{set_cases}
 use Rattle.world_rounds.specs.Campaigns.{HasStood, TakesCampaign}
 use Rattle.world_rounds.specs.Mails.{Changes}
@@ -24,6 +24,7 @@ use Rattle.world_steps.specs.Parts.{IsBookAt}
 use Rattle.world_rounds.specs.World.{GoesOnBy, IsMemberAhead, IsWorld, IsWorldAt}
 use Rattle.world_rounds.specs.declared.member.Member.{Member}
 use Rattle.world_rounds.specs.declared.world.World.{World}
+use Rattle.std.proofs.lemmas.Bool.{cases_eq}
 
 module _ {D : Type 0} (view : DiskView D) (table : Table) where
   pub told_campaign : (rows : List Row) (book : BookState) (situation : Situation) (who : ℕ) (member : Member D) → IsMemberIdle view table rows book situation who member
@@ -127,7 +128,7 @@ module _ {D : Type 0} (view : DiskView D) (table : Table) where
 
   campaign_down : (rows : List Row) (world middle now : World D) (situation : Situation) (who : ℕ) (next : Member D) → IsWorldAt view table rows world situation
       → middle.members.items ≡ set world.members.items who next → PutsDown who middle now → (k : ℕ) → steps_at now k ≡ []
-  campaign_down rows world middle now situation who next is members puts k = elim (cases_number k who) [
+  campaign_down rows world middle now situation who next is members puts k = elim (cases_eq k who) [
     | inl here ↦ ap (steps_at now) here ∙ puts.mine
     | inr other ↦ puts.others k other ∙ other_steps world middle who next k members other ∙ idle_steps rows world situation k is
   ]

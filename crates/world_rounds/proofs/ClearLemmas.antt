@@ -22,7 +22,6 @@ use Rattle.script_text.specs.Command.{IsSkew}
 use Rattle.script_text.specs.declared.command.Command.TheVariants as command
 use Rattle.world_law.specs.Book.{BookState}
 use Rattle.world_rounds.proofs.Chains.{after_append, turns_append}
-use Rattle.world_rounds.proofs.Delivery.{range_next}
 use Rattle.world_rounds.proofs.QuietLemmas.{node_state}
 use Rattle.world_rounds.proofs.RoundsOfAll.{take_front}
 use Rattle.world_rounds.proofs.Setting.{world_set}
@@ -37,6 +36,7 @@ use Rattle.world_steps.specs.Parts.{armed_in}
 use Rattle.world_rounds.specs.declared.world.World.{World}
 use Rattle.history.proofs.Standings.{fact_there}
 use Rattle.due_set.proofs.SoundLemmas.{at_place as found_at}
+use Rattle.cron_io.proofs.ListLemmas.{range_more}
 
 no_skew : IsSkew (pos 0)
 no_skew = (omega (arith, ints), omega (arith, ints))
@@ -106,7 +106,7 @@ restarts_more : (n count : ℕ) (table : Table) (situation here after : Situatio
     → IsPartOf n table (command.Restart count) here more after → RestartsBelow n (count + 1) situation (rows ++ more) after
 restarts_more n count table situation here after rows more so_far part = record {
   turns =
-      subst (λ whos. AreTurnsFor n situation (start_tasks situation.standing.runs whos) (rows ++ more)) (sym (range_next 0 count ∙ ap (λ n. range_with_len 0 count ++ n ∷ []) (omega arith)))
+      subst (λ whos. AreTurnsFor n situation (start_tasks situation.standing.runs whos) (rows ++ more)) (sym (range_more 0 count (0 + count) refl ∙ ap (λ n. range_with_len 0 count ++ n ∷ []) (omega arith)))
       (subst (λ tasks. AreTurnsFor n situation tasks (rows ++ more)) (sym (flat_map-append (λ who. if situation.standing.runs who then [] else Restart who ∷ []) (range_with_len 0 count) (count ∷ [])))
       (turns_append n situation (start_tasks situation.standing.runs (range_with_len 0 count)) (start_tasks situation.standing.runs (count ∷ [])) rows more so_far.turns mine));
   standing = ap (λ (s : Situation). s.standing) is ∙ stands.0 ∙ ap (λ (s : Situation). s.standing) (sym (after_append n situation rows more));

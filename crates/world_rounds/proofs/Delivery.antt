@@ -1,12 +1,10 @@
 -- Letters join the mails of a world.
-use Rattle.std.proofs.Common.{◌≡◌, ◌≢◌, ◌⊎◌, ℕ, zero, suc, ◌+◌, ◌-◌, ◌<◌, ◌≤◌, Bool, true, false, eqb, not, ◌&&◌, if◌then◌else◌, List, [], ◌∷◌, ◌++◌, length, Some, eq-eqb, refl, sym, ap, ◌∙◌, subst, inl, inr, arith, append_assoc, add-one}
+use Rattle.std.proofs.Common.{◌≡◌, ◌≢◌, ◌⊎◌, ℕ, ◌+◌, ◌-◌, ◌<◌, ◌≤◌, Bool, true, false, eqb, not, ◌&&◌, if◌then◌else◌, List, [], ◌∷◌, ◌++◌, length, Some, eq-eqb, refl, sym, ap, ◌∙◌, subst, inl, inr, arith, append_assoc}
 use Rattle.std.proofs.Common.{append-nil as append_nil}
 use Rattle.std.specs.List.{Contains, filter, range_with_len, slice_get}
-use Rattle.std.specs.Option.{option_map}
 use Rattle.std.proofs.Math.ListN.{set}
 use Rattle.std.proofs.lemmas.List.{length-map, length-set}
-use Rattle.std.proofs.lemmas.Option.{slice_get-map}
-use Rattle.std.proofs.lemmas.Bool.{cases_Bool, ne_eqb}
+use Rattle.std.proofs.lemmas.Bool.{cases_Bool, ne_eqb, cases_eq}
 use Rattle.disk_model.specs.View.{DiskView}
 use Rattle.due_set.specs.Table.{Table}
 use Rattle.step_spec.proofs.Lists.{found_in}
@@ -14,9 +12,8 @@ use Rattle.history.specs.Book.{Row, Standing}
 use Rattle.history.proofs.Posted.{posted_to}
 use Rattle.due_set.proofs.Rising.{Contains-cases as cons_cases, Contains-head as in_first, Contains-tail as in_rest}
 use Rattle.script_semantics.specs.Situation.{Situation, delivered, is_cut, reaches}
-use Rattle.world_law.specs.Book.{BookState, StandsBehind, posted_as, standing_behind}
+use Rattle.world_law.specs.Book.{BookState, posted_as, standing_behind}
 use Rattle.world_law.specs.declared.letter.LetterRow.{LetterRow}
-use Rattle.world_rounds.proofs.StepsAt.{cases_number}
 use Rattle.world_rounds.proofs.Worlds.{set_cases}
 use Rattle.world_rounds.specs.Mails.{Changes, arrival_of, arrived}
 use Rattle.world_steps.specs.Parts.{IsSentTo, armed_in}
@@ -27,6 +24,7 @@ use Rattle.world_steps.specs.declared.mail.MemberMail.{MemberMail}
 use Rattle.world_rounds.specs.declared.member.Member.{Member}
 use Rattle.world_rounds.specs.declared.world.World.{World}
 use Rattle.world_law.proofs.Steps.{posted_at}
+use Rattle.cron_io.proofs.ListLemmas.{range_more}
 
 -- whether a letter reaches a replica
 abbrev arrival_by : (number to who : ℕ) → (runs cut : Bool) → List ℕ
@@ -76,7 +74,7 @@ module _ {D : Type 0} (view : DiskView D) (table : Table) where
   pub none_arrives : (rows : List Row) (world : World D) (situation : Situation) (number : ℕ) (letter : LetterRow) (addressed : Member D) (who : ℕ) → IsWorldAt view table rows world situation
       → slice_get world.book.letters number ≡ Some letter → slice_get world.members.items letter.to ≡ Some addressed → addressed.mail.runs ≡ false → arrival_of situation number who ≡ []
   none_arrives rows world situation number letter addressed who is there mine stopped =
-      arrival_is rows world situation number letter who is there ∙ elim (cases_number letter.to who) [
+      arrival_is rows world situation number letter who is there ∙ elim (cases_eq letter.to who) [
         | inl here ↦ by_stopped number letter.to who (situation.standing.runs who) (is_cut letter.from letter.to world.cuts.items)
             (ap situation.standing.runs (sym here) ∙ sym (is.ahead.each letter.to addressed mine).mail.runs ∙ stopped)
         | inr other ↦ by_other number letter.to who (situation.standing.runs who) (is_cut letter.from letter.to world.cuts.items) other
@@ -175,13 +173,6 @@ abbrev pub delivered_to : (first number : ℕ) → Situation → Situation
 delivered_to first number situation =
     record situation { mails = λ who. situation.mails who ++ filter (λ k. reaches situation who (slice_get situation.standing.posted k)) (range_with_len first (number - first)) }
 
-range_push : (first count : ℕ) → range_with_len first (suc count) ≡ range_with_len first count ++ (first + count) ∷ []
-range_push first zero = ap (λ n. n ∷ []) (omega arith)
-range_push first (suc count) = ap (λ more. first ∷ more) (range_push (first + 1) count ∙ ap (λ n. range_with_len (first + 1) count ++ n ∷ []) (omega arith))
-
-pub range_next : (first count : ℕ) → range_with_len first (count + 1) ≡ range_with_len first count ++ (first + count) ∷ []
-range_next first count = ap (range_with_len first) (add-one count) ∙ range_push first count
-
 filter_next : (test : ℕ → Bool) (xs : List ℕ) (x : ℕ) → filter test (xs ++ x ∷ []) ≡ filter test xs ++ (if test x then x ∷ [] else [])
 filter_next test [] x = elim (cases_Bool (test x)) [ inl is ↦ rw is refl | inr isnt ↦ rw isnt refl ]
 filter_next test (y ∷ xs) x = elim (cases_Bool (test y)) [ inl is ↦ rw is (ap (λ more. y ∷ more) (filter_next test xs x)) | inr isnt ↦ rw isnt (filter_next test xs x) ]
@@ -232,7 +223,7 @@ module _ {D : Type 0} (view : DiskView D) where
         (sym (filter_next (reached situation who) (range_with_len first (number - first)) number)
         ∙ ap (filter (reached situation who)) (sym (let e : number + 1 - first ≡ (number - first) + 1 = omega arith in
         let f : first + (number - first) ≡ number = omega arith in
-        ap (range_with_len first) e ∙ range_next first (number - first) ∙ ap (λ n. range_with_len first (number - first) ++ n ∷ []) f))))
+        ap (range_with_len first) e ∙ range_more first (number - first) (first + (number - first)) refl ∙ ap (λ n. range_with_len first (number - first) ++ n ∷ []) f))))
         (arrives table rows (delivered_to first number situation) (delivered.changes up table rows situation is));
     book = book ∙ delivered.book;
     reach = inr (omega arith);

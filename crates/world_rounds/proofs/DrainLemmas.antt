@@ -1,5 +1,5 @@
 -- Rounds of a drain, in a world.
-use Rattle.std.proofs.Common.{Bool, Err, List, None, Ok, OnOk, Option, Result, Some, [], ap, append-nil as append_nil, append_assoc, arith, false, inl, inr, length, refl, subst, suc, sym, true, zero, ℕ, ℤ, ◌++◌, ◌-◌, ◌<◌, ◌∙◌, ◌∷◌, ◌≡◌}
+use Rattle.std.proofs.Common.{Bool, List, None, Option, Some, [], ap, append-nil as append_nil, append_assoc, arith, false, inl, inr, length, refl, subst, suc, sym, true, zero, ℕ, ℤ, ◌++◌, ◌-◌, ◌<◌, ◌∙◌, ◌∷◌, ◌≡◌}
 use Rattle.std.specs.List.{Contains}
 use Rattle.std.proofs.lemmas.Option.{slice_get_within}
 use Rattle.disk_model.specs.View.{DiskView}
@@ -13,7 +13,6 @@ use Rattle.history.specs.declared.turn.CallRow.{CallRow}
 use Rattle.history.specs.declared.turn.Cause.{Cause}
 use Rattle.history.specs.declared.turn.Cause.TheVariants.{Campaign}
 use Rattle.history.specs.declared.turn.Turn.TheVariants.{Did}
-use Rattle.step_spec.proofs.Lists.{nothing_in}
 use Rattle.script_semantics.proofs.RoundLemmas.{is_step}
 use Rattle.script_semantics.proofs.StartLemmas.{same_coordinator}
 use Rattle.script_semantics.specs.Commands.{Plain, set_by, tasks_for}
@@ -23,16 +22,16 @@ use Rattle.script_semantics.specs.Settling.{Drains, IsDrainRound, IsQuiet, Settl
 use Rattle.script_semantics.specs.Situation.{AreTurnsFor, Do, Does, IsTurnFor, Performs, Situation, Task, after_turn, after_turns, delivered, fates_after, letters_for}
 use Rattle.script_text.specs.declared.command.Command.TheVariants as command
 use Rattle.world_rounds.proofs.Delivery.{same_mails}
-use Rattle.world_rounds.proofs.StepsAt.{cases_number}
 use Rattle.world_rounds.specs.Drains.{DrainsOn}
 use Rattle.world_rounds.specs.Quiet.{AllRun, IsIn, AnswersFor}
 use Rattle.step_spec.specs.May.{IsFollower}
 use Rattle.world_rounds.specs.World.{GoesOnBy, IsWorld, IsWorldAt}
 use Rattle.world_rounds.specs.declared.world.World.{World}
-use Rattle.due_set.proofs.Rising.{Contains-head as in_first, Contains-tail as in_rest, Contains-cases as cons_cases}
+use Rattle.due_set.proofs.Rising.{Contains-head as in_first, Contains-tail as in_rest}
 use Rattle.history.proofs.Standings.{fact_here, fact_there}
 use Rattle.due_set.proofs.SoundLemmas.{at_place as found_at}
 use Rattle.script_semantics.proofs.RunningLemmas.{one_step, campaign_steps}
+use Rattle.std.proofs.lemmas.Bool.{cases_eq}
 
 -- ---- how drains are put together
 
@@ -77,7 +76,7 @@ as_set_then one middle other first second = record {
 
 spent : (who : ℕ) (cause : Cause) (made : Option CallRow) (fates : ℕ → Fate) (other : ℕ) → fates other ≡ fate.Done → fates_after (Did who cause made) fates other ≡ fate.Done
 spent who cause None fates other done = done
-spent who cause (Some made) fates other done = elim (cases_number other who) [
+spent who cause (Some made) fates other done = elim (cases_eq other who) [
   | inl here ↦ subst (λ k. with_fact who fate.Done fates k ≡ fate.Done) (sym here) (fact_here who fate.Done fates)
   | inr differs ↦ fact_there who fate.Done fates other differs ∙ done
 ]

@@ -1,7 +1,6 @@
 -- Replicas that take their tasks of a round one after another, each step a turn before the next one is taken.
-use Rattle.std.proofs.Common.{◌≡◌, add-one, ℕ, zero, suc, Result, Ok, Err, take, ◌+◌, ◌<◌, Bool, true, false, List, [], ◌∷◌, ◌++◌, get_or, length, drop, Option, None, Some, if◌then◌else◌, refl, sym, ap, ◌∙◌, subst, inl, inr, append_assoc, arith, ℤ}
+use Rattle.std.proofs.Common.{◌≡◌, add-one, ℕ, zero, suc, take, ◌+◌, ◌<◌, Bool, true, false, List, [], ◌∷◌, ◌++◌, get_or, length, drop, Option, None, Some, if◌then◌else◌, refl, sym, ap, ◌∙◌, subst, inl, inr, append_assoc, arith, ℤ}
 use Rattle.std.proofs.Common.{append-nil as append_nil}
-use Rattle.std.specs.Prelude.{IfOk}
 use Rattle.std.specs.List.{flat_map, range_with_len, slice_get}
 use Rattle.std.proofs.lemmas.List.Concat.{flat_map-append}
 use Rattle.disk_model.specs.View.{DiskView}
@@ -18,7 +17,6 @@ use Rattle.script_semantics.specs.Round.{answer_tasks, clock_reading, hear_tasks
 use Rattle.script_semantics.specs.Situation.{Do, Situation, Task, after_turn, after_turns, delivered, mails_after}
 use Rattle.world_steps.proofs.AfterTurn.{row_runs}
 use Rattle.world_rounds.proofs.Led.{AreLeft, after_both, back_of, leads_end, others_leave, round_below, round_tasks_of, turns_then, leads_none, leads_step, hears_of, leads_stop, leads_then, tick_of}
-use Rattle.world_rounds.proofs.Delivery.{range_next}
 use Rattle.world_rounds.proofs.RoundsOfAll.{posted_so_far}
 use Rattle.world_rounds.specs.Mails.{Changes}
 use Rattle.world_rounds.specs.OneByOne.{AreTasksOf, HasPassed, HasStepped, IsLed, IsLedOn, LeadsOn, MayStepFor, goes_on}
@@ -26,6 +24,7 @@ use Rattle.world_rounds.specs.World.{GoesOnBy, IsWorld, IsWorldAt}
 use Rattle.world_rounds.specs.declared.member.Member.{Member}
 use Rattle.world_rounds.specs.declared.world.World.{World}
 use Rattle.history.proofs.Standings.{fact_here}
+use Rattle.cron_io.proofs.ListLemmas.{range_more}
 
 -- ---- how turns lead on in a world
 
@@ -352,7 +351,7 @@ module _ {D : Type 0} (view : DiskView D) (table : Table) where
   tasks_next : (at : ℤ) (situation : Situation) (count : ℕ)
       → flat_map (tasks_of table.window at situation) (range_with_len 0 (count + 1)) ≡ flat_map (tasks_of table.window at situation) (range_with_len 0 count) ++ tasks_of table.window at situation count
   tasks_next at situation count =
-      ap (flat_map (tasks_of table.window at situation)) (range_next 0 count ∙ ap (λ n. range_with_len 0 count ++ n ∷ []) (omega arith))
+      ap (flat_map (tasks_of table.window at situation)) (range_more 0 count (0 + count) refl ∙ ap (λ n. range_with_len 0 count ++ n ∷ []) (omega arith))
       ∙ flat_map-append (tasks_of table.window at situation) (range_with_len 0 count) (count ∷ [])
       ∙ ap (λ last. flat_map (tasks_of table.window at situation) (range_with_len 0 count) ++ last) (append_nil (tasks_of table.window at situation count))
 

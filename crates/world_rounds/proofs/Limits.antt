@@ -5,7 +5,6 @@ use Rattle.std.proofs.lemmas.List.{length-map}
 use Rattle.disk_model.specs.View.{DiskView}
 use Rattle.due_set.specs.Table.{Table}
 use Rattle.history.specs.Book.{PostedLetter, Row}
-use Rattle.script_semantics.proofs.ListLemmas.{from_map}
 use Rattle.script_semantics.specs.Situation.{Situation}
 use Rattle.settling.specs.Rounds.{IsWithinBounds}
 use Rattle.world_law.specs.Book.{posted_as}
@@ -13,6 +12,7 @@ use Rattle.world_rounds.proofs.Waiting.{posted_are}
 use Rattle.world_rounds.specs.Bounds.{IsBookBounded}
 use Rattle.world_rounds.specs.World.{IsWorldAt}
 use Rattle.world_rounds.specs.declared.world.World.{World}
+use Rattle.step_spec.proofs.ListLemmas.{from_map}
 
 module _ {D : Type 0} (view : DiskView D) (table : Table) where
   pub within_bounds : (rows : List Row) (world : World D) (situation : Situation) → IsWorldAt view table rows world situation → IsBookBounded world.book

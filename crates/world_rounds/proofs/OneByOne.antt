@@ -51,7 +51,7 @@ use Rattle.world_rounds.proofs.AfterTurn.{member_stays}
 use Rattle.world_rounds.proofs.Halts.{has_same}
 use Rattle.world_rounds.proofs.RoundLemmas.{idle_beside}
 use Rattle.world_rounds.proofs.Campaigns.{idle_steps}
-use Rattle.world_rounds.proofs.StepsAt.{ahead_same, cases_number, get_set_here, get_set_there}
+use Rattle.world_rounds.proofs.StepsAt.{ahead_same, get_set_here, get_set_there}
 use Rattle.world_rounds.proofs.Worlds.{set_cases, world_on}
 use Rattle.world_rounds.specs.Alone.{HasJoinedAlone, IsAlone}
 use Rattle.world_rounds.specs.OneByOne.{CanTell, EndsStep, HasStepped, MayBeNext, MayCommitStopped, MayStepFor, MayTakeBeside, goes_on, letters_behind}
@@ -62,6 +62,7 @@ use Rattle.world_rounds.specs.declared.member.Member.{Member}
 use Rattle.world_rounds.specs.declared.world.World.{World}
 use Rattle.due_set.proofs.Rising.{Contains-head as in_first, Contains-tail as in_rest}
 use Rattle.history.proofs.Standings.{fact_here, fact_there}
+use Rattle.std.proofs.lemmas.Bool.{cases_eq}
 
 -- ---- what is known when a replica takes a step
 
@@ -239,7 +240,7 @@ module _ {D : Type 0} (view : DiskView D) (table : Table) where
           one.1 had.ahead)
 
       none : (k : ℕ) → with_fact who [] (with_fact who (taken ∷ []) none_taken) k ≡ none_taken k
-      none k = elim (cases_number k who) [
+      none k = elim (cases_eq k who) [
         | inl here ↦ rw here (fact_here who [] (with_fact who (taken ∷ []) none_taken))
         | inr other ↦ fact_there who [] (with_fact who (taken ∷ []) none_taken) k other ∙ fact_there who (taken ∷ []) none_taken k other
       ]
@@ -261,7 +262,7 @@ module _ {D : Type 0} (view : DiskView D) (table : Table) where
       saved = subst (λ (all : List Delta). IsEnough (situation.arms who) all) (sym changes) ends.1
 
       middle_steps : (k : ℕ) → steps_at middle k ≡ []
-      middle_steps k = ap (λ members. steps_left_to (slice_get members k)) members ∙ elim (cases_number k who) [
+      middle_steps k = ap (λ members. steps_left_to (slice_get members k)) members ∙ elim (cases_eq k who) [
         | inl here ↦ rw here (ap steps_left_to (get_set_here world.members.items who new (slice_get_within world.members.items who old there)) ∙ ap (λ steps. steps.items) kept_steps ∙ is.idle who old there)
         | inr other ↦ ap steps_left_to (get_set_there world.members.items who new k other) ∙ idle_steps view table rows world situation k is
       ]

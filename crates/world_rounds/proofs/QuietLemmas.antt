@@ -1,7 +1,7 @@
 -- What a world in which all run tells of its replicas.
-use Rattle.std.proofs.Common.{◌≡◌, ◌↔◌, ◌==◌, ℕ, zero, suc, ◌+◌, ◌<◌, ◌≤◌, Bool, IsTrue, is_some, true, false, List, [], ◌∷◌, length, drop, ℤ, Option, None, Some, refl, sym, ap, ◌∙◌, subst, inl, inr, arith, length-drop}
+use Rattle.std.proofs.Common.{◌≡◌, ◌↔◌, ◌==◌, ℕ, suc, ◌+◌, ◌<◌, ◌≤◌, Bool, IsTrue, is_some, true, false, List, [], ◌∷◌, length, drop, ℤ, Option, None, Some, refl, sym, ap, ◌∙◌, subst, inl, inr, arith, length-drop}
 use Rattle.std.specs.List.{Contains, slice_get}
-use Rattle.std.proofs.lemmas.Bool.{eqb-true, eq-eqb}
+use Rattle.std.proofs.lemmas.Bool.{eqb-true, eq-eqb, cases_eq}
 use Rattle.std.proofs.lemmas.List.{drop_all}
 use Rattle.std.proofs.lemmas.Option.{slice_get_within}
 use Rattle.disk_model.specs.View.{DiskView}
@@ -22,7 +22,6 @@ use Rattle.script_semantics.specs.Settling.{AsksNothing, IsFreeTerm, IsQuiet}
 use Rattle.script_semantics.specs.Situation.{Situation}
 use Rattle.world_law.specs.Book.{standing_behind}
 use Rattle.world_steps.specs.Steps.{IsNodeAhead}
-use Rattle.world_rounds.proofs.StepsAt.{cases_number}
 use Rattle.world_rounds.proofs.Worlds.{some_same}
 use Rattle.settling.specs.Idle.{IsIdleAt}
 use Rattle.world_rounds.specs.Quiet.{AllRun, AnswersFor}
@@ -77,7 +76,7 @@ asks_some table at replica intent of_table is asks =
 -- what holds of those before a place, and of the one there, holds of those before the next place
 pub each_next : {X : Type 0} (holds : X → Type 0) (xs : List X) (index : ℕ) (x : X) → slice_get xs index ≡ Some x → holds x
     → ((k : ℕ) (y : X) → k < index → slice_get xs k ≡ Some y → holds y) → (k : ℕ) (y : X) → k < index + 1 → slice_get xs k ≡ Some y → holds y
-each_next holds xs index x there is so_far = λ k y below found. elim (cases_number k index) [
+each_next holds xs index x there is so_far = λ k y below found. elim (cases_eq k index) [
   | inl here ↦ subst holds (some_same (slice_get xs index) x y there (subst (λ k. slice_get xs k ≡ Some y) here found)) is
   | inr differs ↦ so_far k y (omega arith) found
 ]

@@ -1,14 +1,11 @@
 -- What a replica takes in a round.
-use Rattle.std.proofs.Common.{List, None, Option, Some, [], ap, append-nil as append_nil, append_assoc, arith, false, refl, subst, sym, true, ℕ, ℤ, ◌++◌, ◌∙◌, ◌∷◌, ◌≡◌}
+use Rattle.std.proofs.Common.{List, None, Option, Some, [], ap, append-nil as append_nil, append_assoc, false, refl, subst, sym, true, ℕ, ℤ, ◌++◌, ◌∙◌, ◌∷◌, ◌≡◌}
 use Rattle.std.specs.Prelude.{◌<ℤ◌}
 use Rattle.std.specs.List.{Contains}
-use Rattle.std.proofs.lemmas.Int.{clamps, ints}
 use Rattle.std.proofs.lemmas.List.{map-append}
 use Rattle.std.proofs.lemmas.List.Concat.{flat_map-append}
 use Rattle.disk_model.specs.View.{DiskView}
-use Rattle.zone_minutes.specs.Window.{IsInWindow}
 use Rattle.zone_minutes.specs.declared.minute.Minute.{Minute}
-use Rattle.zone_minutes.specs.declared.minute.Window.{Window}
 use Rattle.cluster_sched.specs.declared.row.SchedRow.{SchedRow}
 use Rattle.due_set.specs.Table.{Table}
 use Rattle.step_spec.proofs.Lists.{nothing_in}
@@ -28,9 +25,7 @@ use Rattle.script_text.specs.Command.{IsSkew}
 use Rattle.world_rounds.specs.World.{IsMemberAhead}
 use Rattle.world_steps.specs.Parts.{armed_in}
 use Rattle.world_rounds.specs.declared.member.Member.{Member}
-
-pub clock_inside : (window : Window) (at skew : ℤ) → window.from.0 <ℤ window.until.0 → IsInWindow window (clock_reading window at skew).0
-clock_inside window at skew ordered = record { since = omega (arith, ints, clamps); before = omega (arith, ints, clamps) }
+use Rattle.script_semantics.proofs.RoundLemmas.{clock_inside}
 
 -- ---- causes and tasks
 

@@ -6,7 +6,7 @@ use Rattle.std.proofs.Math.ListN.{set}
 use Rattle.std.proofs.lemmas.List.{length-map, length-set}
 use Rattle.std.proofs.lemmas.List.Concat.{flat_map-append}
 use Rattle.std.proofs.lemmas.Option.{slice_get_past, slice_get_within}
-use Rattle.std.proofs.lemmas.Bool.{cases_lt}
+use Rattle.std.proofs.lemmas.Bool.{cases_lt, cases_eq}
 use Rattle.disk_model.specs.View.{DiskView}
 use Rattle.due_set.specs.Table.{Table}
 use Rattle.zone_minutes.specs.declared.minute.Window.{Window}
@@ -18,9 +18,8 @@ use Rattle.world_law.specs.Book.{BookState, IsLegalBook, posted_as}
 use Rattle.world_steps.specs.Steps.{causes_of}
 use Rattle.world_rounds.proofs.Chains.{taken_none, taken_then}
 use Rattle.world_steps.specs.Parts.{armed_in}
-use Rattle.world_rounds.proofs.Delivery.{range_next}
 use Rattle.world_rounds.proofs.Led.{plain_turns, round_below}
-use Rattle.world_rounds.proofs.StepsAt.{ahead_same, cases_number, get_set_there}
+use Rattle.world_rounds.proofs.StepsAt.{ahead_same, get_set_there}
 use Rattle.world_rounds.proofs.Worlds.{set_cases}
 use Rattle.world_rounds.specs.Mails.{Changes}
 use Rattle.world_rounds.specs.Rounds.{AllTakeRounds, CommitsAll, HasTakenRound, MayTakeRound, TakesRound, tasks_at_hand}
@@ -30,6 +29,7 @@ use Rattle.world_rounds.specs.World.{GoesOnBy, IsMemberAhead, IsWorld, IsWorldAt
 use Rattle.world_rounds.specs.declared.member.Member.{Member}
 use Rattle.world_rounds.specs.declared.world.World.{World}
 use Rattle.due_set.proofs.SoundLemmas.{at_place as found_below}
+use Rattle.cron_io.proofs.ListLemmas.{range_more}
 
 some_one : {X : Type 0} (found : Option X) (one other : X) → found ≡ Some one → found ≡ Some other → one ≡ other
 some_one found one other a b = cc
@@ -109,7 +109,7 @@ module _ {D : Type 0} (view : DiskView D) (table : Table) where
 
   tasks_more : (world : World D) (number : ℕ) → tasks_below world (number + 1) ≡ tasks_below world number ++ tasks_by number (causes_of (steps_at world number))
   tasks_more world number =
-      ap (flat_map (λ who. tasks_by who (causes_of (steps_at world who)))) (range_next 0 number ∙ ap (λ n. range_with_len 0 number ++ n ∷ []) (omega arith))
+      ap (flat_map (λ who. tasks_by who (causes_of (steps_at world who)))) (range_more 0 number (0 + number) refl ∙ ap (λ n. range_with_len 0 number ++ n ∷ []) (omega arith))
       ∙ flat_map-append (λ who. tasks_by who (causes_of (steps_at world who))) (range_with_len 0 number) (number ∷ [])
       ∙ ap (λ last. tasks_below world number ++ last) (append_nil (tasks_by number (causes_of (steps_at world number))))
 
@@ -122,7 +122,7 @@ module _ {D : Type 0} (view : DiskView D) (table : Table) where
         (so_far.did rows situation ahead)
         (λ rows situation here. subst (λ steps. HasTakenTurns view table (book_of now).members rows situation (tasks_by number (causes_of steps)) (steps_at new) new)
         (so_far.above number (omega arith)) (commits rows situation here)));
-    below = λ who less. elim (cases_number who number) [
+    below = λ who less. elim (cases_eq who number) [
       | inl here ↦ ap (steps_at new) here ∙ puts.mine
       | inr other ↦ puts.others who other ∙ so_far.below who (omega arith)
     ];

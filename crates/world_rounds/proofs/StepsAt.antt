@@ -1,8 +1,7 @@
 -- The steps that the replicas of a world have at hand.
-use Rattle.std.proofs.Common.{List, Some, [], add-one, ap, append-nil as append_nil, arith, drop, drop-cons, eq-eqb, eqb, false, get_or, inl, inr, length, refl, subst, suc, sym, take, true, zero, ℕ, ◌++◌, ◌+◌, ◌<◌, ◌∙◌, ◌∷◌, ◌≡◌, ◌≢◌, ◌⊎◌}
+use Rattle.std.proofs.Common.{List, Some, [], add-one, ap, append-nil as append_nil, arith, drop, drop-cons, get_or, inl, inr, length, refl, subst, suc, sym, take, zero, ℕ, ◌++◌, ◌+◌, ◌<◌, ◌∙◌, ◌∷◌, ◌≡◌, ◌≢◌}
 use Rattle.std.specs.List.{slice_get}
 use Rattle.std.proofs.Math.ListN.{set}
-use Rattle.std.proofs.lemmas.Bool.{cases_Bool, eqb-true}
 use Rattle.std.proofs.lemmas.List.{length-set, map-append}
 use Rattle.due_set.specs.Table.{Table}
 use Rattle.history.specs.Book.{Row, with_fact}
@@ -18,6 +17,7 @@ use Rattle.world_rounds.specs.World.{IsMemberAhead, IsWorldAhead, book_of}
 use Rattle.world_rounds.specs.declared.member.Member.{Member}
 use Rattle.world_rounds.specs.declared.world.World.{World}
 use Rattle.history.proofs.Standings.{fact_here, fact_there}
+use Rattle.std.proofs.lemmas.Bool.{cases_eq}
 
 pub get_set_here : {X : Type 0} (xs : List X) (i : ℕ) (y : X) → i < length xs → slice_get (set xs i y) i ≡ Some y
 get_set_here [] i y below = absurd (omega arith)
@@ -43,14 +43,11 @@ drop_whole [] (suc n) is = refl
 drop_whole (x ∷ xs) zero is = absurd (omega arith)
 drop_whole (x ∷ xs) (suc n) is = drop_whole xs n (omega arith)
 
-pub cases_number : (k i : ℕ) → (k ≡ i) ⊎ (k ≢ i)
-cases_number k i = elim (cases_Bool (eqb k i)) [ inl same ↦ inl (eqb-true k i same) | inr differ ↦ inr (λ same. absurd (let e : eqb k i ≡ true = rw same (eq-eqb i i refl) in let f : true ≡ false = sym e ∙ differ in cc)) ]
-
 -- a replica of which the steps are the same
 pub keeps_at : {D : Type 0} (old new : World D) (who : ℕ) (member next : Member D) → slice_get old.members.items who ≡ Some member → who < length old.members.items
     → new.members.items ≡ set old.members.items who next → next.steps.items ≡ member.steps.items → KeepsSteps old new
 keeps_at old new who member next there below members same = record {
-  each = λ k. ap (λ members. steps_left_to (slice_get members k)) members ∙ elim (cases_number k who) [
+  each = λ k. ap (λ members. steps_left_to (slice_get members k)) members ∙ elim (cases_eq k who) [
     | inl here ↦ rw here (ap steps_left_to (get_set_here old.members.items who next below) ∙ same ∙ sym (ap steps_left_to there))
     | inr other ↦ ap steps_left_to (get_set_there old.members.items who next k other)
   ];
@@ -106,7 +103,7 @@ module _ {D : Type 0} (view : DiskView D) (table : Table) where
   committed_none who steps world = record {
     did = λ rows situation ahead_by ahead mine.
         taken_same world.book.members rows situation [] ahead_by (with_fact who steps ahead_by) world
-        (λ k. elim (cases_number k who) [ inl here ↦ rw here (mine ∙ sym (fact_here who steps ahead_by)) | inr other ↦ sym (fact_there who steps ahead_by k other) ])
+        (λ k. elim (cases_eq k who) [ inl here ↦ rw here (mine ∙ sym (fact_here who steps ahead_by)) | inr other ↦ sym (fact_there who steps ahead_by k other) ])
         (taken_none view table rows situation ahead_by world ahead);
     keeps = keeps_none world;
   }
@@ -145,7 +142,7 @@ module _ {D : Type 0} (view : DiskView D) (table : Table) where
     did = λ rows situation ahead_by ahead mine.
         subst (λ tasks. HasTakenTurns view table first.book.members rows situation tasks (with_fact who (drop (count + 1) steps) ahead_by) next) (tasks_next who steps count taken below is)
         (taken_same first.book.members rows situation _ (with_fact who (drop (count + 1) steps) (with_fact who (drop count steps) ahead_by)) (with_fact who (drop (count + 1) steps) ahead_by) next
-        (λ k. elim (cases_number k who) [
+        (λ k. elim (cases_eq k who) [
           | inl here ↦ rw here (fact_here who (drop (count + 1) steps) (with_fact who (drop count steps) ahead_by) ∙ sym (fact_here who (drop (count + 1) steps) ahead_by))
           | inr other ↦ fact_there who (drop (count + 1) steps) (with_fact who (drop count steps) ahead_by) k other ∙ fact_there who (drop count steps) ahead_by k other
               ∙ sym (fact_there who (drop (count + 1) steps) ahead_by k other)
@@ -174,7 +171,7 @@ module _ {D : Type 0} (view : DiskView D) (table : Table) where
     λ rows situation ahead.
         subst (λ steps. HasTakenTurns view table old.book.members rows situation (tasks_by who (causes_of steps)) (steps_at new) new) mine
         (taken_same old.book.members rows situation (tasks_by who (causes_of steps)) (with_fact who [] (steps_at old)) (steps_at new) new
-        (λ k. elim (cases_number k who) [
+        (λ k. elim (cases_eq k who) [
           | inl here ↦ rw here (fact_here who [] (steps_at old) ∙ sym puts.mine)
           | inr other ↦ fact_there who [] (steps_at old) k other ∙ sym (puts.others k other)
         ])

@@ -24,6 +24,7 @@ use Rattle.world_rounds.specs.World.{IsMemberAhead, IsWorldAt}
 use Rattle.world_rounds.specs.declared.member.Member.{Member}
 use Rattle.world_rounds.specs.declared.rooms.MemberRoom.{MemberRoom}
 use Rattle.world_rounds.specs.declared.world.World.{World}
+use Rattle.step_spec.proofs.ListLemmas.{mapped_at, first_left}
 
 -- the members so far are of the nodes and mails in front, and these are left
 pub record Joining {D : Type 0} (nodes : List (Node D)) (mails : List MemberMail) (members : List (Member D)) (more : List (Node D)) (rest : List MemberMail) : Type 0 where
@@ -35,10 +36,6 @@ pub record Joining {D : Type 0} (nodes : List (Node D)) (mails : List MemberMail
 pub joining_none : {D : Type 0} (nodes : List (Node D)) (mails : List MemberMail) (members : List (Member D)) → length mails ≡ length nodes → members ≡ [] → Joining nodes mails members nodes mails
 joining_none {D = D} nodes mails members same none =
     subst (λ (members : List (Member D)). Joining nodes mails members nodes mails) (sym none) (record { nodes_are = refl; mails_are = refl; same = same; idle = λ who member found. absurd cc })
-
-first_of : {X : Type 0} (xs : List X) (x : X) → 0 < length xs → x ≡ slice_index_or xs 0 x → xs ≡ x ∷ remove xs 0
-first_of [] x some is = absurd (omega (arith, some))
-first_of (first ∷ rest) x some is = ap (λ x. x ∷ rest) (sym is)
 
 moved : {X Y : Type 0} (of : X → Y) (xs : List X) (x : X) (ys : List Y) (all left : List Y) → all ≡ map of xs ++ left → left ≡ of x ∷ ys → all ≡ map of (xs ++ x ∷ []) ++ ys
 moved of xs x ys all left parts is =
@@ -61,21 +58,16 @@ joining_next {D = D} nodes mails members after more left rest others member so_f
 })
   where
     first_node : more ≡ member.node ∷ left
-    first_node = first_of more member.node some node ∙ ap (λ left. member.node ∷ left) (sym left_is)
+    first_node = first_left more member.node some node ∙ ap (λ left. member.node ∷ left) (sym left_is)
 
     first_mail : rest ≡ member.mail ∷ others
-    first_mail = let same = so_far.same in first_of rest member.mail (omega (arith, some, same)) mail ∙ ap (λ others. member.mail ∷ others) (sym others_are)
+    first_mail = let same = so_far.same in first_left rest member.mail (omega (arith, some, same)) mail ∙ ap (λ others. member.mail ∷ others) (sym others_are)
 
 pub joined : {D : Type 0} (nodes : List (Node D)) (mails : List MemberMail) (members : List (Member D)) (more : List (Node D)) (rest : List MemberMail) → Joining nodes mails members more rest
     → length more ≡ 0 → AreNodesAndMails members nodes mails
 joined nodes mails members [] [] so_far none = record { nodes_are = so_far.nodes_are ∙ append-nil (nodes_of members); mails_are = so_far.mails_are ∙ append-nil (mails_of members) }
 joined nodes mails members [] (mail ∷ rest) so_far none = absurd (let same = so_far.same in omega (arith, same))
 joined nodes mails members (node ∷ more) rest so_far none = absurd (omega (arith, none))
-
-found_by : {X Y : Type 0} (of : X → Y) (xs : List X) (who : ℕ) (x : X) → slice_get xs who ≡ Some x → slice_get (map of xs) who ≡ Some (of x)
-found_by of [] who x is = absurd cc
-found_by of (first ∷ xs) zero x is = let same : first ≡ x = cc in ap (λ x. Some (of x)) same
-found_by of (first ∷ xs) (suc who) x is = found_by of xs who x is
 
 module _ {D : Type 0} (view : DiskView D) (table : Table) where
   running : (rows : List Row) (book : BookState) (who : ℕ) (node : Node D) → who < book.members → (standing_behind table rows book).runs who ≡ true
@@ -134,9 +126,9 @@ module _ {D : Type 0} (view : DiskView D) (table : Table) where
       each who member found =
           let within : who < length world.members.items = slice_get_within world.members.items who member found in
           let below : who < parts.book.members = subst (λ n. who < n) count within in
-          let node = are.nodes.each who member.node (subst (λ nodes. slice_get nodes who ≡ Some member.node) (sym replicas.nodes_are) (found_by (λ (m : Member D). m.node) world.members.items who member found)) in
+          let node = are.nodes.each who member.node (subst (λ nodes. slice_get nodes who ≡ Some member.node) (sym replicas.nodes_are) (mapped_at (λ (m : Member D). m.node) world.members.items who member found)) in
           record {
-            mail = are.mails who member.mail (subst (λ mails. slice_get mails who ≡ Some member.mail) (sym replicas.mails_are) (found_by (λ (m : Member D). m.mail) world.members.items who member found));
+            mail = are.mails who member.mail (subst (λ mails. slice_get mails who ≡ Some member.mail) (sym replicas.mails_are) (mapped_at (λ (m : Member D). m.mail) world.members.items who member found));
             running = λ runs. running rows parts.book who member.node below runs node;
             stopped = λ stopped. ended rows parts.book who member.node are.at.behind below stopped node;
           }

@@ -12,11 +12,11 @@ use Rattle.script_semantics.specs.Parts.{Then}
 use Rattle.script_semantics.specs.Settling.{AsksNothing, AsksNothingUntil, Drains, IsNextMinute, Settles, Walks, WalksOn, coordinator}
 use Rattle.script_semantics.specs.Situation.{Situation}
 use Rattle.step_spec.specs.State.{State}
-use Rattle.world_rounds.proofs.StepsAt.{cases_number}
 use Rattle.world_rounds.specs.Quiet.{AllRun, IsIn, AnswersFor}
 use Rattle.world_rounds.specs.Walking.{WalkedOn}
 use Rattle.world_rounds.specs.World.{GoesOnBy, IsWorld, IsWorldAt}
 use Rattle.world_rounds.specs.declared.world.World.{World}
+use Rattle.std.proofs.lemmas.Bool.{cases_eq}
 
 -- at each of the minutes from one on, and before another, the table asks for nothing
 abbrev pub AsksNothingIn : Table → (first end : ℕ) → State → Type 0
@@ -24,7 +24,7 @@ AsksNothingIn table first end state = (minute : ℕ) → first ≤ minute → mi
 
 pub asks_none_next : (table : Table) (first minute : ℕ) (state : State) → AsksNothingIn table first minute state → AsksNothing table (pos minute) state
     → AsksNothingIn table first (minute + 1) state
-asks_none_next table first minute state so_far here = λ other from below. elim (cases_number other minute) [
+asks_none_next table first minute state so_far here = λ other from below. elim (cases_eq other minute) [
   | inl same ↦ subst (λ m. AsksNothing table (pos m) state) (sym same) here
   | inr differs ↦ so_far other from (omega arith)
 ]

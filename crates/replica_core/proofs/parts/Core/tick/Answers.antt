@@ -1,8 +1,9 @@
 use Rattle.std.proofs.Common.{◌∙◌, Some, None, refl, sym}
 use Rattle.replica_core.specs.Replica.{own_identity, state_of}
-use Rattle.replica_core.proofs.LeadLemmas.{begun-ready, leads_with, makes_as, makes_nothing, tick-leads, tick-long, tick-rests, tick-waits}
+use Rattle.replica_core.proofs.LeadLemmas.{begun-ready, leads_with, makes_as, makes_nothing, tick-leads, tick-rests, tick-waits}
 use Rattle.replica_core.proofs.SteadyLemmas.{on_ok_so}
 use Rattle.replica_core.proofs.parts.Core.tick.Goals as goal
+use Rattle.step_spec.proofs.DeltaLemmas.{tick-long}
 
 pub returns-then-is_long : goal.returns-then-is_long
 returns-then-is_long c =

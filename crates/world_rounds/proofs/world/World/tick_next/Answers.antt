@@ -9,10 +9,10 @@ use Rattle.history.specs.declared.turn.Cause.TheVariants.{Tick}
 use Rattle.script_semantics.specs.Round.{clock_reading}
 use Rattle.script_semantics.specs.Situation.{Do}
 use Rattle.world_rounds.proofs.InOrder.{led_step, runs_here}
-use Rattle.world_rounds.proofs.RoundLemmas.{clock_inside}
 use Rattle.world_rounds.specs.OneByOne.{IsLed}
 use Rattle.world_rounds.proofs.world.World.tick_next.Goals as goal
 use Rattle.replica_core.proofs.LeadLemmas.{if_ok as if_ok_to}
+use Rattle.script_semantics.proofs.RoundLemmas.{clock_inside}
 
 pub reading_of-now-requires-clause-small : goal.reading_of-now-requires-clause-small
 reading_of-now-requires-clause-small g c =
