@@ -1,14 +1,13 @@
 -- What the acts of one replica come to in a world.
-use Rattle.std.proofs.Common.{◌≡◌, ℕ, Bool, true, false, eqb, Option, Some, None, List, [], ◌∷◌, ◌++◌, map, refl, sym, ap, ◌∙◌, inl, inr, arith, append-nil, if◌then◌else◌}
+use Rattle.std.proofs.Common.{◌≡◌, ℕ, Bool, true, false, eqb, Option, Some, List, [], ◌∷◌, ◌++◌, map, refl, sym, ap, ◌∙◌, inl, inr, arith, append-nil, if◌then◌else◌}
 use Rattle.std.specs.List.{Contains, filter}
 use Rattle.std.proofs.lemmas.Bool.{cases_Bool, eqb-true, eq-eqb}
 use Rattle.std.proofs.lemmas.List.{append_assoc}
-use Rattle.std.proofs.lemmas.List.Elements.{Contains-push, Contains-push_cases, Contains-append_left, Contains-append_cases}
+use Rattle.std.proofs.lemmas.List.Elements.{Contains-push, Contains-push_cases, Contains-append_cases}
 use Rattle.paxos_base.specs.Durable.{after_delta}
 use Rattle.paxos_base.specs.declared.durable.Delta.{Delta}
 use Rattle.paxos_base.specs.declared.durable.Delta.TheVariants.{Tried, Promised, Voted, Base}
 use Rattle.paxos_base.specs.declared.entry.Kind.{Kind}
-use Rattle.paxos_base.specs.declared.entry.Vote.{Vote}
 use Rattle.cluster_sched.specs.declared.row.SchedRow.{SchedRow}
 use Rattle.step_spec.specs.Act.{Act, Observe, Stand, Gather, TakeLead, Pledge, Cast, Propose, Count, Wait, Learn, Rebase, Call, Send, Restart, after_act}
 use Rattle.step_spec.specs.Folds.{after_acts, deltas_by, deltas_of, learnt_by, learnt_of}
@@ -16,21 +15,12 @@ use Rattle.step_spec.specs.May.{Ending, HasSaid, Saying}
 use Rattle.step_spec.proofs.Lists.{nothing_in}
 use Rattle.step_spec.specs.Message.{Message, Whom}
 use Rattle.step_spec.specs.State.{State}
-use Rattle.step_spec.specs.declared.out.LearntRow.{LearntRow}
 use Rattle.agreement.specs.Transition.{is_silent}
 use Rattle.step_spec.specs.Step.{Event}
-use Rattle.agreement.specs.World.{CastVote, Learning, World, after_all, after_doing, after_done, answered_after, cast_after, doings_of, learned_after, said_after, with_replica}
-use Rattle.history.specs.Book.{vote_of_delta, votes_by, votes_of}
+use Rattle.agreement.specs.World.{CastVote, Learning, World, after_all, after_doing, after_done, cast_after, doings_of, learned_after, with_replica}
+use Rattle.history.specs.Book.{cast_votes, learned_entries, vote_of_delta, votes_by, votes_of}
 use Rattle.agreement.proofs.Transitions.{said_stays as said_more, answered_stays as answered_more}
 use Rattle.due_set.proofs.Rising.{Contains-cases as cons_cases}
-
--- the votes of a replica
-abbrev pub cast_rows : ℕ → List Vote → List CastVote
-cast_rows by votes = map (λ vote. record { by = by; vote = vote }) votes
-
--- the learned entries of a replica
-abbrev pub learned_rows : ℕ → List LearntRow → List Learning
-learned_rows by learnt = map (λ (row : LearntRow). record { by = by; slot = row.slot; entry = row.entry }) learnt
 
 -- changing a replica twice leaves the later change, and changing it to what it is leaves all
 pub with_twice : (by : ℕ) (one two : State) (replicas : ℕ → State) (q : ℕ) → with_replica by two (with_replica by one replicas) q ≡ with_replica by two replicas q
@@ -51,12 +41,12 @@ all_replicas by event answer (act ∷ acts) w q =
     all_replicas by event answer acts (after_done (record { by = by; event = event; act = act; answer = answer }) w) q
     ∙ rw (with_here by (after_act act (w.replicas by)) w.replicas) (with_twice by (after_act act (w.replicas by)) (after_acts acts (after_act act (w.replicas by))) w.replicas q)
 
-cast_is : (by : ℕ) (act : Act) (cast : List CastVote) → cast_after by act cast ≡ cast ++ cast_rows by (votes_by act)
+cast_is : (by : ℕ) (act : Act) (cast : List CastVote) → cast_after by act cast ≡ cast ++ cast_votes (Some by) (votes_by act)
 cast_is by (Cast vote) cast = refl
 cast_is by (Propose me vote) cast = refl
 cast_is by act cast = sym (append-nil cast)
 
-learned_is : (by : ℕ) (act : Act) (learned : List Learning) → learned_after by act learned ≡ learned ++ learned_rows by (learnt_by act)
+learned_is : (by : ℕ) (act : Act) (learned : List Learning) → learned_after by act learned ≡ learned ++ learned_entries (Some by) (learnt_by act)
 unfolding learnt_by
 learned_is by (Learn slot entry) learned = refl
 learned_is by act learned = sym (append-nil learned)
@@ -66,23 +56,23 @@ map-append f [] ys = refl
 map-append f (x ∷ xs) ys = ap (λ rest. f x ∷ rest) (map-append f xs ys)
 
 -- their votes join those that were cast
-pub all_cast : (by : ℕ) (event : Option Event) (answer : Option Kind) (acts : List Act) (w : World) → (after_all (doings_of by event answer acts) w).cast ≡ w.cast ++ cast_rows by (votes_of acts)
+pub all_cast : (by : ℕ) (event : Option Event) (answer : Option Kind) (acts : List Act) (w : World) → (after_all (doings_of by event answer acts) w).cast ≡ w.cast ++ cast_votes (Some by) (votes_of acts)
 unfolding after_doing
 all_cast by event answer [] w = sym (append-nil w.cast)
 all_cast by event answer (act ∷ acts) w =
     all_cast by event answer acts (after_done (record { by = by; event = event; act = act; answer = answer }) w)
-    ∙ ap (λ cast. cast ++ cast_rows by (votes_of acts)) (cast_is by act w.cast)
-    ∙ append_assoc w.cast (cast_rows by (votes_by act)) (cast_rows by (votes_of acts))
+    ∙ ap (λ cast. cast ++ cast_votes (Some by) (votes_of acts)) (cast_is by act w.cast)
+    ∙ append_assoc w.cast (cast_votes (Some by) (votes_by act)) (cast_votes (Some by) (votes_of acts))
     ∙ ap (λ rows. w.cast ++ rows) (sym (map-append _ (votes_by act) (votes_of acts)))
 
 -- their learned entries join those that were learned
-pub all_learned : (by : ℕ) (event : Option Event) (answer : Option Kind) (acts : List Act) (w : World) → (after_all (doings_of by event answer acts) w).learned ≡ w.learned ++ learned_rows by (learnt_of acts)
+pub all_learned : (by : ℕ) (event : Option Event) (answer : Option Kind) (acts : List Act) (w : World) → (after_all (doings_of by event answer acts) w).learned ≡ w.learned ++ learned_entries (Some by) (learnt_of acts)
 unfolding after_doing
 all_learned by event answer [] w = sym (append-nil w.learned)
 all_learned by event answer (act ∷ acts) w =
     all_learned by event answer acts (after_done (record { by = by; event = event; act = act; answer = answer }) w)
-    ∙ ap (λ learned. learned ++ learned_rows by (learnt_of acts)) (learned_is by act w.learned)
-    ∙ append_assoc w.learned (learned_rows by (learnt_by act)) (learned_rows by (learnt_of acts))
+    ∙ ap (λ learned. learned ++ learned_entries (Some by) (learnt_of acts)) (learned_is by act w.learned)
+    ∙ append_assoc w.learned (learned_entries (Some by) (learnt_by act)) (learned_entries (Some by) (learnt_of acts))
     ∙ ap (λ rows. w.learned ++ rows) (sym (map-append _ (learnt_by act) (learnt_of acts)))
 
 pub all_answered_more : (by : ℕ) (event : Option Event) (answer : Option Kind) (acts : List Act) (w : World) (ending : Ending) → Contains w.answered ending → Contains (after_all (doings_of by event answer acts) w).answered ending

@@ -34,7 +34,7 @@ use Rattle.step_spec.proofs.OutLemmas.{calls_in, letters_are}
 use Rattle.agreement.specs.Transition as taken
 use Rattle.agreement.specs.Transition.{AreTransitions, MayTake, after_transition, after_transitions, is_silent}
 use Rattle.agreement.specs.World.{CastVote, Learning, World, after_all, doings_of, first_world, with_replica}
-use Rattle.history.specs.Book.{PostedLetter, Row, Standing, acts_at, after_row, answer_to, is_name, under, with_fact, after_stop, durable_after, first_standing, kept_at, learned_in, post, standing_after, turn_of, votes_in, votes_of}
+use Rattle.history.specs.Book.{PostedLetter, Row, Standing, acts_at, after_row, answer_to, cast_votes, is_name, under, with_fact, after_stop, durable_after, first_standing, kept_at, learned_entries, learned_in, post, standing_after, turn_of, votes_in, votes_of}
 use Rattle.agreement.specs.Transition.{identity_of}
 use Rattle.history.specs.Legal.{IsEventOfCause, IsLegal, IsMade, MayFollow, StopsWithin, TakesTurn, answered}
 use Rattle.history.specs.declared.turn.CallRow.{CallRow}
@@ -43,7 +43,7 @@ use Rattle.history.specs.declared.turn.Cause.{Cause}
 use Rattle.history.specs.declared.turn.Cause.TheVariants as cause
 use Rattle.history.specs.declared.turn.Turn.{Turn}
 use Rattle.history.specs.declared.turn.Turn.TheVariants.{Did, Stopped, Restarted, Arrived}
-use Rattle.history.proofs.Acts.{Sends, Stops, all_answered, all_answered_more, all_cast, all_learned, all_replicas, all_said, all_said_more, back_of, cast_rows, front_of, learned_rows, parts_of, stops_at, with_here, with_twice}
+use Rattle.history.proofs.Acts.{Sends, Stops, all_answered, all_answered_more, all_cast, all_learned, all_replicas, all_said, all_said_more, back_of, front_of, parts_of, stops_at, with_here, with_twice}
 use Rattle.step_spec.proofs.Lists.{flat_came, found_in, map_came, nothing_in, take_next, zip_beside}
 use Rattle.step_spec.specs.declared.out.OutLetter.{OutLetter}
 use Rattle.due_set.proofs.Rising.{Contains-head as in_first, Contains-tail as in_rest, Contains-cases as cons_cases}
@@ -179,26 +179,26 @@ matches_as n jobs st st' votes votes' learned learned' w replicas posted answers
 }
 
 -- acts of which no letter leaves
-quiet_acts : (n jobs : ℕ) (st : Standing) (votes : List CastVote) (learned : List Learning) (w : World) (who : ℕ) (event : Option Event) (answer : Option Kind) (acts : List Act) → Matches n jobs st votes learned w → Matches n jobs (record st { replicas = with_replica who (after_acts acts (st.replicas who)) st.replicas }) (votes ++ cast_rows who (votes_of acts)) learned (after_all (doings_of who event answer acts) w)
+quiet_acts : (n jobs : ℕ) (st : Standing) (votes : List CastVote) (learned : List Learning) (w : World) (who : ℕ) (event : Option Event) (answer : Option Kind) (acts : List Act) → Matches n jobs st votes learned w → Matches n jobs (record st { replicas = with_replica who (after_acts acts (st.replicas who)) st.replicas }) (votes ++ cast_votes (Some who) (votes_of acts)) learned (after_all (doings_of who event answer acts) w)
 quiet_acts n jobs st votes learned w who event answer acts m = record {
   replicas = λ q. all_replicas who event answer acts w q ∙ with_eq who _ _ w.replicas st.replicas q (ap (after_acts acts) (m.replicas who)) m.replicas;
-  cast = all_cast who event answer acts w ∙ ap (λ cast. cast ++ cast_rows who (votes_of acts)) m.cast;
-  learned_of = λ x has. rw (all_learned who event answer acts w) (Contains-append_left w.learned (learned_rows who (learnt_of acts)) x (m.learned_of x has));
+  cast = all_cast who event answer acts w ∙ ap (λ cast. cast ++ cast_votes (Some who) (votes_of acts)) m.cast;
+  learned_of = λ x has. rw (all_learned who event answer acts w) (Contains-append_left w.learned (learned_entries (Some who) (learnt_of acts)) x (m.learned_of x has));
   said = λ letter messages has heard. all_said_still w.said (after_all (doings_of who event answer acts) w).said letter.from messages (all_said_more who event answer acts w) (m.said letter messages has heard);
   spelled = λ letter has. spells_still n w.said (after_all (doings_of who event answer acts) w).said letter (all_said_more who event answer acts w) (m.spelled letter has);
   answers = λ q row is. all_answered_more who event answer acts w (ending_of q row) (m.answers q row is);
 }
 
 -- acts of a step, with its letters
-step_acts : (n jobs : ℕ) (st : Standing) (votes : List CastVote) (learned : List Learning) (w : World) (who : ℕ) (event : Option Event) (answer : Option Kind) (acts : List Act) (letters : List OutLetter) → AreLettersOf (identity_of n who) acts letters → Matches n jobs st votes learned w → Matches n jobs (record st { replicas = with_replica who (after_acts acts (st.replicas who)) st.replicas; posted = st.posted ++ post who letters }) (votes ++ cast_rows who (votes_of acts)) (learned ++ learned_rows who (learnt_of acts)) (after_all (doings_of who event answer acts) w)
+step_acts : (n jobs : ℕ) (st : Standing) (votes : List CastVote) (learned : List Learning) (w : World) (who : ℕ) (event : Option Event) (answer : Option Kind) (acts : List Act) (letters : List OutLetter) → AreLettersOf (identity_of n who) acts letters → Matches n jobs st votes learned w → Matches n jobs (record st { replicas = with_replica who (after_acts acts (st.replicas who)) st.replicas; posted = st.posted ++ post who letters }) (votes ++ cast_votes (Some who) (votes_of acts)) (learned ++ learned_entries (Some who) (learnt_of acts)) (after_all (doings_of who event answer acts) w)
 step_acts n jobs st votes learned w who event answer acts letters spelled m =
     let quiet = quiet_acts n jobs st votes learned w who event answer acts m in
     record {
       replicas = quiet.replicas;
       cast = quiet.cast;
-      learned_of = λ x has. rw (all_learned who event answer acts w) (elim (Contains-append_cases learned (learned_rows who (learnt_of acts)) x has) [
-        | inl old ↦ Contains-append_left w.learned (learned_rows who (learnt_of acts)) x (m.learned_of x old)
-        | inr now ↦ Contains-append_right w.learned (learned_rows who (learnt_of acts)) x now
+      learned_of = λ x has. rw (all_learned who event answer acts w) (elim (Contains-append_cases learned (learned_entries (Some who) (learnt_of acts)) x has) [
+        | inl old ↦ Contains-append_left w.learned (learned_entries (Some who) (learnt_of acts)) x (m.learned_of x old)
+        | inr now ↦ Contains-append_right w.learned (learned_entries (Some who) (learnt_of acts)) x now
       ]);
       said = λ letter messages has heard. elim (Contains-append_cases st.posted (post who letters) letter has) [
         | inl old ↦ quiet.said letter messages old heard
@@ -332,27 +332,27 @@ answers_after n jobs st votes learned w who event acts made m is_made q row is =
   | inr other ↦ all_answered_more who event (kind_of_answer made) acts w (ending_of q row) (m.answers q row (rw other at is))
 ]
 
-did : (n : ℕ) (table : Table) (st : Standing) (votes : List CastVote) (learned : List Learning) (w : World) (who : ℕ) (cause : Cause) (row : Row) (made : Option CallRow) → Matches n (length table.jobs) st votes learned w → MayFollow n table st (Did who cause made) row → Goes n table 1 w (after_row n st (Did who cause made) row.event row.letters) (votes ++ cast_rows who row.votes) (learned ++ learned_rows who row.learnt)
+did : (n : ℕ) (table : Table) (st : Standing) (votes : List CastVote) (learned : List Learning) (w : World) (who : ℕ) (cause : Cause) (row : Row) (made : Option CallRow) → Matches n (length table.jobs) st votes learned w → MayFollow n table st (Did who cause made) row → Goes n table 1 w (after_row n st (Did who cause made) row.event row.letters) (votes ++ cast_votes (Some who) row.votes) (learned ++ learned_entries (Some who) row.learnt)
 unfolding after_row
 did n table st votes learned w who cause row made m (takes, brings) =
     let acts : step (identity_of n who) row.event (w.replicas who) ≡ acts_at n st who row.event = ap (step (identity_of n who) row.event) (m.replicas who) in
     let after = step_acts n (length table.jobs) st votes learned w who (Some row.event) (kind_of_answer made) (acts_at n st who row.event) row.letters brings.letters m in
-    let same = matches_as n (length table.jobs) _ (after_row n st (Did who cause made) row.event row.letters) _ (votes ++ cast_rows who row.votes) _ (learned ++ learned_rows who row.learnt) _
+    let same = matches_as n (length table.jobs) _ (after_row n st (Did who cause made) row.event row.letters) _ (votes ++ cast_votes (Some who) row.votes) _ (learned ++ learned_entries (Some who) row.learnt) _
     (λ q. refl) refl (answers_after n (length table.jobs) st votes learned w who (Some row.event) (acts_at n st who row.event) made m brings.call)
     (rw brings.votes refl) (λ x has. rw (← brings.learnt) has) after in
     record {
       turns = taken.Did who row.event (kind_of_answer made) ∷ [];
       few = omega arith;
       are = (may_take n table st votes learned w who cause row.event m takes, tt);
-      matches = subst (λ some. Matches n (length table.jobs) (after_row n st (Did who cause made) row.event row.letters) (votes ++ cast_rows who row.votes) (learned ++ learned_rows who row.learnt) (after_all (doings_of who (Some row.event) (kind_of_answer made) some) w)) (sym acts) same;
+      matches = subst (λ some. Matches n (length table.jobs) (after_row n st (Did who cause made) row.event row.letters) (votes ++ cast_votes (Some who) row.votes) (learned ++ learned_entries (Some who) row.learnt) (after_all (doings_of who (Some row.event) (kind_of_answer made) some) w)) (sym acts) same;
     }
 
 -- a turn that brings nothing adds no vote and no learned entry
-no_votes : (who : ℕ) (votes : List CastVote) (some : List Vote) → some ≡ [] → votes ++ [] ≡ votes ++ cast_rows who some
+no_votes : (who : ℕ) (votes : List CastVote) (some : List Vote) → some ≡ [] → votes ++ [] ≡ votes ++ cast_votes (Some who) some
 no_votes who votes some none = rw none refl
 
-no_learned : (who : ℕ) (learned : List Learning) (some : List LearntRow) → some ≡ [] → (x : Learning) → Contains (learned ++ learned_rows who some) x → Contains learned x
-no_learned who learned some none x has = subst (λ rows. Contains rows x) (ap (λ rows. learned ++ learned_rows who rows) none ∙ append-nil learned) has
+no_learned : (who : ℕ) (learned : List Learning) (some : List LearntRow) → some ≡ [] → (x : Learning) → Contains (learned ++ learned_entries (Some who) some) x → Contains learned x
+no_learned who learned some none x has = subst (λ rows. Contains rows x) (ap (λ rows. learned ++ learned_entries (Some who) rows) none ∙ append-nil learned) has
 
 -- no answer waits for a replica that has stopped
 pub none_waits : (who : ℕ) (waits : ℕ → Option SchedRow) (q : ℕ) (row : SchedRow) → with_fact who None waits q ≡ Some row → waits q ≡ Some row
@@ -362,29 +362,29 @@ none_waits who waits q row is = elim (cases_Bool (eqb q who)) [
 ]
 
 -- a replica that stops and has kept what it kept
-stopped : (n : ℕ) (table : Table) (st : Standing) (votes : List CastVote) (learned : List Learning) (w : World) (who : ℕ) (row : Row) (kept : Durable) → Matches n (length table.jobs) st votes learned w → who < n → (st.replicas who).kept ≡ kept → row.votes ≡ [] → row.learnt ≡ [] → Goes n table 1 w (after_stop who kept st) (votes ++ cast_rows who row.votes) (learned ++ learned_rows who row.learnt)
+stopped : (n : ℕ) (table : Table) (st : Standing) (votes : List CastVote) (learned : List Learning) (w : World) (who : ℕ) (row : Row) (kept : Durable) → Matches n (length table.jobs) st votes learned w → who < n → (st.replicas who).kept ≡ kept → row.votes ≡ [] → row.learnt ≡ [] → Goes n table 1 w (after_stop who kept st) (votes ++ cast_votes (Some who) row.votes) (learned ++ learned_entries (Some who) row.learnt)
 unfolding after_act
 stopped n table st votes learned w who row kept m member is no_vote none = record {
   turns = taken.Restarted who ∷ [];
   few = omega arith;
   are = (member, tt);
-  matches = matches_as n (length table.jobs) _ (after_stop who kept st) _ (votes ++ cast_rows who row.votes) learned (learned ++ learned_rows who row.learnt) _
+  matches = matches_as n (length table.jobs) _ (after_stop who kept st) _ (votes ++ cast_votes (Some who) row.votes) learned (learned ++ learned_entries (Some who) row.learnt) _
       (λ q. with_eq who _ _ st.replicas st.replicas q (ap (started who) is) (λ p. refl)) refl
       (λ q answer waits. still.answers q answer (none_waits who st.waits q answer waits)) (no_votes who votes row.votes no_vote) (no_learned who learned row.learnt none)
       still;
 }
   where
-    still : Matches n (length table.jobs) (record st { replicas = with_replica who (after_acts (Restart who ∷ []) (st.replicas who)) st.replicas }) (votes ++ cast_rows who (votes_of (Restart who ∷ []))) learned (after_all (doings_of who None None (Restart who ∷ [])) w)
+    still : Matches n (length table.jobs) (record st { replicas = with_replica who (after_acts (Restart who ∷ []) (st.replicas who)) st.replicas }) (votes ++ cast_votes (Some who) (votes_of (Restart who ∷ []))) learned (after_all (doings_of who None None (Restart who ∷ [])) w)
     still = quiet_acts n (length table.jobs) st votes learned w who None None (Restart who ∷ []) m
 
 -- a replica that stops within a step, and has kept its change
-stopped_kept : (n : ℕ) (table : Table) (st : Standing) (votes : List CastVote) (learned : List Learning) (w : World) (who : ℕ) (cause : Cause) (row : Row) → Matches n (length table.jobs) st votes learned w → TakesTurn n table st who cause row.event → StopsWithin n st who row true → Goes n table 1 w (after_stop who (kept_at n st who row.event true) st) (votes ++ cast_rows who row.votes) (learned ++ learned_rows who row.learnt)
+stopped_kept : (n : ℕ) (table : Table) (st : Standing) (votes : List CastVote) (learned : List Learning) (w : World) (who : ℕ) (cause : Cause) (row : Row) → Matches n (length table.jobs) st votes learned w → TakesTurn n table st who cause row.event → StopsWithin n st who row true → Goes n table 1 w (after_stop who (kept_at n st who row.event true) st) (votes ++ cast_votes (Some who) row.votes) (learned ++ learned_entries (Some who) row.learnt)
 unfolding after_act
 stopped_kept n table st votes learned w who cause row m takes within = record {
   turns = taken.Stopped who row.event (front_of acts) (back_of acts) ∷ taken.Restarted who ∷ [];
   few = omega arith;
   are = ((may_take n table st votes learned w who cause row.event m takes, ap (step (identity_of n who) row.event) (m.replicas who) ∙ parts_of acts), (takes.member, tt));
-  matches = matches_as n (length table.jobs) _ (after_stop who (kept_at n st who row.event true) st) _ (votes ++ cast_rows who row.votes) learned (learned ++ learned_rows who row.learnt) _
+  matches = matches_as n (length table.jobs) _ (after_stop who (kept_at n st who row.event true) st) _ (votes ++ cast_votes (Some who) row.votes) learned (learned ++ learned_entries (Some who) row.learnt) _
       (λ q. with_eq who _ _ st1.replicas st1.replicas q (ap (started who) is_kept) (λ p. refl) ∙ with_twice who (after_acts silent (st.replicas who)) (started who (kept_at n st who row.event true)) st.replicas q)
       refl (λ q answer waits. still.answers q answer (none_waits who st.waits q answer waits)) cast_is (no_learned who learned row.learnt within.learnt)
       still;
@@ -402,20 +402,20 @@ stopped_kept n table st votes learned w who cause row m takes within = record {
     st1 : Standing
     st1 = record st { replicas = with_replica who (after_acts silent (st.replicas who)) st.replicas }
 
-    first : Matches n (length table.jobs) st1 (votes ++ cast_rows who (votes_of silent)) learned (after_all (doings_of who (Some row.event) None silent) w)
+    first : Matches n (length table.jobs) st1 (votes ++ cast_votes (Some who) (votes_of silent)) learned (after_all (doings_of who (Some row.event) None silent) w)
     first = quiet_acts n (length table.jobs) st votes learned w who (Some row.event) None silent m
 
-    still : Matches n (length table.jobs) (record st1 { replicas = with_replica who (after_acts (Restart who ∷ []) (st1.replicas who)) st1.replicas }) ((votes ++ cast_rows who (votes_of silent)) ++ cast_rows who (votes_of (Restart who ∷ []))) learned (after_all (doings_of who None None (Restart who ∷ [])) (after_all (doings_of who (Some row.event) None silent) w))
-    still = quiet_acts n (length table.jobs) st1 (votes ++ cast_rows who (votes_of silent)) learned _ who None None (Restart who ∷ []) first
+    still : Matches n (length table.jobs) (record st1 { replicas = with_replica who (after_acts (Restart who ∷ []) (st1.replicas who)) st1.replicas }) ((votes ++ cast_votes (Some who) (votes_of silent)) ++ cast_votes (Some who) (votes_of (Restart who ∷ []))) learned (after_all (doings_of who None None (Restart who ∷ [])) (after_all (doings_of who (Some row.event) None silent) w))
+    still = quiet_acts n (length table.jobs) st1 (votes ++ cast_votes (Some who) (votes_of silent)) learned _ who None None (Restart who ∷ []) first
 
     is_kept : (st1.replicas who).kept ≡ kept_at n st who row.event true
     is_kept = ap (λ s. s.kept) (with_here who (after_acts silent (st.replicas who)) st.replicas) ∙ stops.kept ∙ sym (ap (λ deltas. durable_after deltas (st.replicas who).kept) within.changes)
 
-    cast_is : (votes ++ cast_rows who (votes_of silent)) ++ [] ≡ votes ++ cast_rows who row.votes
-    cast_is = append-nil _ ∙ ap (λ some. votes ++ cast_rows who some) (stops.votes ∙ sym within.votes)
+    cast_is : (votes ++ cast_votes (Some who) (votes_of silent)) ++ [] ≡ votes ++ cast_votes (Some who) row.votes
+    cast_is = append-nil _ ∙ ap (λ some. votes ++ cast_votes (Some who) some) (stops.votes ∙ sym within.votes)
 
 -- a turn of a book is none or more turns of the world
-goes : (n : ℕ) (table : Table) (st : Standing) (votes : List CastVote) (learned : List Learning) (w : World) (turn : Turn) (row : Row) → Matches n (length table.jobs) st votes learned w → MayFollow n table st turn row → Goes n table 1 w (after_row n st turn row.event row.letters) (votes ++ cast_rows (turn_of turn) row.votes) (learned ++ learned_rows (turn_of turn) row.learnt)
+goes : (n : ℕ) (table : Table) (st : Standing) (votes : List CastVote) (learned : List Learning) (w : World) (turn : Turn) (row : Row) → Matches n (length table.jobs) st votes learned w → MayFollow n table st turn row → Goes n table 1 w (after_row n st turn row.event row.letters) (votes ++ cast_votes (turn_of turn) row.votes) (learned ++ learned_entries (turn_of turn) row.learnt)
 unfolding after_row
 goes n table st votes learned w (Did who cause made) row m may = did n table st votes learned w who cause row made m may
 goes n table st votes learned w (Stopped who None true) row m (member, runs, kept, nothing) = absurd cc
@@ -428,15 +428,15 @@ goes n table st votes learned w (Restarted who) row m (member, stopped_before, n
   turns = [];
   few = omega arith;
   are = tt;
-  matches = matches_as n (length table.jobs) st _ votes (votes ++ cast_rows who row.votes) learned (learned ++ learned_rows who row.learnt) w
+  matches = matches_as n (length table.jobs) st _ votes (votes ++ cast_votes (Some who) row.votes) learned (learned ++ learned_entries (Some who) row.learnt) w
       (λ q. refl) refl (λ q answer waits. m.answers q answer waits) (sym (append-nil votes) ∙ no_votes who votes row.votes nothing.votes) (no_learned who learned row.learnt nothing.learnt) m;
 }
-goes n table st votes learned w (Arrived number) row m (late, nothing) = record {
+goes n table st votes learned w (Arrived number) row m may = record {
   turns = [];
   few = omega arith;
   are = tt;
-  matches = matches_as n (length table.jobs) st _ votes (votes ++ cast_rows 0 row.votes) learned (learned ++ learned_rows 0 row.learnt) w
-      (λ q. refl) refl (λ q answer waits. m.answers q answer waits) (sym (append-nil votes) ∙ no_votes 0 votes row.votes nothing.votes) (no_learned 0 learned row.learnt nothing.learnt) m;
+  matches = matches_as n (length table.jobs) st _ votes (votes ++ []) learned (learned ++ []) w
+      (λ q. refl) refl (λ q answer waits. m.answers q answer waits) (sym (append-nil votes)) (λ x has. subst (λ rows. Contains rows x) (append-nil learned) has) m;
 }
 
 -- ---- books

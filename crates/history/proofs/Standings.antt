@@ -124,10 +124,20 @@ pub waits_stopped : (members : ℕ) (standing : Standing) (who : ℕ) (cause : O
 unfolding after_row
 waits_stopped members standing who cause kept event letters = fact_here who None standing.waits
 
-pub waits_others : (members : ℕ) (standing : Standing) (turn : Turn) (event : Event) (letters : List OutLetter) (other : ℕ) → other ≢ turn_of turn → (after_row members standing turn event letters).waits other ≡ standing.waits other
+-- who isn't named is another
+pub is_another : (who other : ℕ) → Some who ≢ Some other → other ≢ who
+is_another who other differs same = differs (ap Some (sym same))
+
+-- a turn of one replica is no turn of another
+pub is_no_turn_of : (turn : Turn) (who other : ℕ) → turn_of turn ≡ Some who → other ≢ who → turn_of turn ≢ Some other
+is_no_turn_of turn who other of differs same =
+    let alike : Some who ≡ Some other = sym of ∙ same in
+    differs (let one : other ≡ who = cc in one)
+
+pub waits_others : (members : ℕ) (standing : Standing) (turn : Turn) (event : Event) (letters : List OutLetter) (other : ℕ) → turn_of turn ≢ Some other → (after_row members standing turn event letters).waits other ≡ standing.waits other
 unfolding after_row
-waits_others members standing (Did who cause made) event letters other apart = fact_there who (answer_to made) standing.waits other apart
-waits_others members standing (Stopped who cause kept) event letters other apart = fact_there who None standing.waits other apart
+waits_others members standing (Did who cause made) event letters other apart = fact_there who (answer_to made) standing.waits other (is_another who other apart)
+waits_others members standing (Stopped who cause kept) event letters other apart = fact_there who None standing.waits other (is_another who other apart)
 waits_others members standing (Restarted who) event letters other apart = refl
 waits_others members standing (Arrived number) event letters other apart = refl
 

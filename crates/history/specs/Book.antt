@@ -153,19 +153,29 @@ standing_after members rows book =
     fold (λ standing row. after_row members standing row.turn row.event row.letters) (first_standing members rows) book
 
 -- who has a turn; an arrival is nobody's
-abbrev pub turn_of : Turn → ℕ
-turn_of (Did who cause made) = who
-turn_of (Stopped who cause kept) = who
-turn_of (Restarted who) = who
-turn_of (Arrived number) = 0
+abbrev pub turn_of : Turn → Option ℕ
+turn_of (Did who cause made) = Some who
+turn_of (Stopped who cause kept) = Some who
+turn_of (Restarted who) = Some who
+turn_of (Arrived number) = None
+
+-- the votes that a replica casts; where there is none, none are cast
+abbrev pub cast_votes : Option ℕ → List Vote → List CastVote
+cast_votes None votes = []
+cast_votes (Some who) votes = map (λ vote. record { by = who; vote = vote }) votes
+
+-- the entries that a replica learns; where there is none, none are learned
+abbrev pub learned_entries : Option ℕ → List LearntRow → List Learning
+learned_entries None learnt = []
+learned_entries (Some who) learnt = map (λ (row : LearntRow). record { by = who; slot = row.slot; entry = row.entry }) learnt
 
 -- the votes of a book
 abbrev pub votes_in : List Row → List CastVote
-votes_in book = flat_map (λ row. map (λ vote. record { by = turn_of row.turn; vote = vote }) row.votes) book
+votes_in book = flat_map (λ row. cast_votes (turn_of row.turn) row.votes) book
 
 -- the learned entries of a book
 abbrev pub learned_in : List Row → List Learning
-learned_in book = flat_map (λ row. map (λ (learnt : LearntRow). record { by = turn_of row.turn; slot = learnt.slot; entry = learnt.entry }) row.learnt) book
+learned_in book = flat_map (λ row. learned_entries (turn_of row.turn) row.learnt) book
 
 -- the votes of an act
 abbrev pub votes_by : Act → List Vote

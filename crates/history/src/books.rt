@@ -137,7 +137,7 @@ pub fn an_answer_waits_after_an_answered_call()
     ensures stop { (members : ℕ) (standing : Standing) (who : ℕ) (cause : Option Cause) (kept : Bool) (event : Event) (letters : List OutLetter)
         → (after_row members standing (Stopped who cause kept) event letters).waits who ≡ None }
     ensures others { (members : ℕ) (standing : Standing) (turn : Turn) (event : Event) (letters : List OutLetter) (other : ℕ)
-        → other ≢ turn_of turn → (after_row members standing turn event letters).waits other ≡ standing.waits other }
+        → turn_of turn ≢ Some other → (after_row members standing turn event letters).waits other ≡ standing.waits other }
     ensures start { (members : ℕ) (standing : Standing) (who : ℕ) (event : Event) (letters : List OutLetter)
         → (after_row members standing (Restarted who) event letters).waits ≡ standing.waits }
     ensures arrival { (members : ℕ) (standing : Standing) (number : ℕ) (event : Event) (letters : List OutLetter)

@@ -28,14 +28,13 @@ use Rattle.agreement.specs.Agree.{HasCast}
 use Rattle.agreement.specs.Transition.{identity_of}
 use Rattle.agreement.specs.World.{CastVote}
 use Rattle.agreement.proofs.Told.{HasHeard, IsLed}
-use Rattle.history.specs.Book.{Row, Standing, acts_at, learned_in, standing_after, turn_of, vote_of_delta, votes_in, votes_of}
+use Rattle.history.specs.Book.{Row, Standing, acts_at, cast_votes, learned_in, standing_after, turn_of, vote_of_delta, votes_in, votes_of}
 use Rattle.history.specs.Legal.{IsEventOfCause, IsLegal, MayFollow, TakesTurn, kept_votes}
 use Rattle.history.specs.declared.turn.CallRow.{CallRow}
 use Rattle.history.specs.declared.turn.Cause.{Cause}
 use Rattle.history.specs.declared.turn.Cause.TheVariants as causes
 use Rattle.history.specs.declared.turn.Turn.{Turn}
 use Rattle.history.specs.declared.turn.Turn.TheVariants.{Did, Stopped, Restarted, Arrived}
-use Rattle.history.proofs.Acts.{cast_rows}
 use Rattle.history.proofs.Reached.{heard_event}
 use Rattle.history.proofs.Standings.{call_asked}
 use Rattle.history.proofs.PlainLemmas.{AsksFor, step_calls, votes_of_deltas}
@@ -54,10 +53,12 @@ pub record WasCast (votes : List CastVote) (slot : ℕ) (entry : Entry) : Type 0
 
 -- the turn that comes behind the book asks for this
 pub record AsksIn (n : ℕ) (table : Table) (book : List Row) (turn : Turn) (slot : ℕ) (now : ℤ) (wanted : Intent) : Type 0 where
+  pub who : ℕ
+  pub turn_is : turn_of turn ≡ Some who
   pub reads : ReadsAt now turn
-  pub learned : prefix_of (state_before n table book turn) ≡ slot
+  pub learned : prefix_of (state_before n table book who) ≡ slot
   pub launch : List JobRow
-  pub launch_is : IsLaunchTable table (state_before n table book turn) launch
+  pub launch_is : IsLaunchTable table (state_before n table book who) launch
   pub asks : IsIntent table launch now wanted
 
 -- it asks for the start; of another entry nothing is said
@@ -128,17 +129,19 @@ module _ (n : ℕ) (table : Table) (book : List Row) (few : n ≤ 7) (legal : Is
   ]
 
   -- what is offered is asked for in the turn
-  module _ (turn : Turn) (of : turn_of turn ≡ who) (reads : (now : ℤ) → TicksAt now cause → ReadsAt now turn) where
+  module _ (turn : Turn) (of : turn_of turn ≡ Some who) (reads : (now : ℤ) → TicksAt now cause → ReadsAt now turn) where
     ticked_in : (slot : ℕ) (entry : Entry) → prefix_of state ≡ slot → IsTicked event entry → AsksEntry n table book turn slot entry
     ticked_in slot Noop learned ticked = tt
     ticked_in slot (End job at kind) learned ticked = tt
     ticked_in slot (Start job at now) learned (plan, is, wants) =
         let planned : IsPlanned table state (Tick now plan) = subst (IsPlanned table state) is takes.planned in
         record {
+          who = who;
+          turn_is = of;
           reads = reads now (ticks_at n table standing who cause event now plan takes.event_of is);
-          learned = ap (λ q. prefix_of (standing.replicas q)) of ∙ learned;
+          learned = learned;
           launch = plan.rows;
-          launch_is = subst (λ q. IsLaunchTable table (standing.replicas q) plan.rows) (sym of) planned.0;
+          launch_is = planned.0;
           asks = subst (IsIntent table plan.rows now) wants planned.1;
         }
 
@@ -168,6 +171,11 @@ kept_vote acts delta true vote is has =
     subst (λ some. Contains some vote) (sym votes) has
 kept_vote acts delta false vote is has = nothing_in has
 
+-- a vote that is cast is one of the votes
+vote_came : (who : Option ℕ) (votes : List Vote) (cast : CastVote) → Contains (cast_votes who votes) cast → Contains votes cast.vote
+vote_came None votes cast has = nothing_in has
+vote_came (Some who) votes cast has = let came = map_came _ votes cast has in subst (λ (c : CastVote). Contains votes c.vote) came.is came.has
+
 module _ (n : ℕ) (table : Table) (book : List Row) (few : n ≤ 7) (legal : IsLegal n table book) where
   abbrev st : Standing
   st = standing_after n (first_rows table) book
@@ -189,10 +197,8 @@ module _ (n : ℕ) (table : Table) (book : List Row) (few : n ≤ 7) (legal : Is
   row_vote (Restarted who) row (member, stopped, nothing) vote has = none_new (Restarted who) row.votes nothing.votes vote has
   row_vote (Arrived number) row (late, nothing) vote has = none_new (Arrived number) row.votes nothing.votes vote has
 
-  pub row_votes : (turn : Turn) (row : Row) → MayFollow n table st turn row → (cast : CastVote) → Contains (cast_rows (turn_of turn) row.votes) cast → IsNew turn cast.vote.slot cast.vote.entry
-  row_votes turn row may cast has =
-      let came = map_came _ row.votes cast has in
-      subst (λ (c : CastVote). IsNew turn c.vote.slot c.vote.entry) came.is (row_vote turn row may came.of came.has)
+  pub row_votes : (turn : Turn) (row : Row) → MayFollow n table st turn row → (cast : CastVote) → Contains (cast_votes (turn_of turn) row.votes) cast → IsNew turn cast.vote.slot cast.vote.entry
+  row_votes turn row may cast has = row_vote turn row may cast.vote (vote_came (turn_of turn) row.votes cast has)
 
   -- the call of a turn is asked for in it
   pub row_call : (who : ℕ) (cause : Cause) (row : Row) (made : CallRow) → MayFollow n table st (Did who cause (Some made)) row
@@ -203,6 +209,8 @@ module _ (n : ℕ) (table : Table) (book : List Row) (few : n ≤ 7) (legal : Is
       let called = call_may n table book few legal who cause row.event may.0 made.row asked in
       let read = call_read n table st who cause made row may in
       record {
+        who = who;
+        turn_is = refl;
         reads = subst (TicksAt made.row.now.0) (sym read.is) (sym read.same);
         learned = refl;
         launch = called.rows;

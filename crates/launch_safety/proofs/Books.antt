@@ -24,13 +24,12 @@ use Rattle.step_spec.specs.Folds.{calls_of, deltas_of}
 use Rattle.step_spec.proofs.Lists.{found_in, map_came, nothing_in, take_next}
 use Rattle.agreement.specs.Log.{IsLog}
 use Rattle.agreement.specs.World.{CastVote}
-use Rattle.history.specs.Book.{Row, Standing, acts_at, after_row, answer_to, arriving, first_standing, held_after, is_name, late_call, standing_after, turn_of, under, vote_of_delta, votes_in, votes_of, with_fact}
+use Rattle.history.specs.Book.{Row, Standing, acts_at, after_row, answer_to, arriving, cast_votes, first_standing, held_after, is_name, late_call, standing_after, turn_of, under, vote_of_delta, votes_in, votes_of, with_fact}
 use Rattle.history.specs.Legal.{IsLegal, IsMade, MayFollow, answered, kept_votes}
 use Rattle.history.specs.declared.turn.CallRow.{CallRow}
 use Rattle.history.specs.declared.turn.Cause.{Cause}
 use Rattle.history.specs.declared.turn.Turn.{Turn}
 use Rattle.history.specs.declared.turn.Turn.TheVariants.{Did, Stopped, Restarted, Arrived}
-use Rattle.history.proofs.Acts.{cast_rows}
 use Rattle.history.proofs.Agreement.{book_log, cut_is_legal}
 use Rattle.history.proofs.Standings.{call_asked, names_once}
 use Rattle.launch_safety.specs.Fitting.{TakesEffectAt}
@@ -156,7 +155,7 @@ fitting_more table log more votes st fits = record {
 -- votes of one replica, each of which fits
 cast_fits : (held : List SchedRow) (table : Table) (log : List Entry) (who : ℕ) (votes : List Vote)
     → ((vote : Vote) → Contains votes vote → SaysHeld held vote.entry × TakesEffectAt table log vote.slot vote.entry)
-    → (cast : CastVote) → Contains (cast_rows who votes) cast → SaysHeld held cast.vote.entry × TakesEffectAt table log cast.vote.slot cast.vote.entry
+    → (cast : CastVote) → Contains (cast_votes (Some who) votes) cast → SaysHeld held cast.vote.entry × TakesEffectAt table log cast.vote.slot cast.vote.entry
 cast_fits held table log who votes each cast has =
     let came = map_came _ votes cast has in
     subst (λ (c : CastVote). SaysHeld held c.vote.entry × TakesEffectAt table log c.vote.slot c.vote.entry) came.is (each came.of came.has)
@@ -192,40 +191,40 @@ module _ (n : ℕ) (table : Table) (book : List Row) (few : n ≤ 7) (legal : Is
 
   -- what a row of the book brings fits the log that was there
   row_fits : (turn : Turn) (row : Row) → MayFollow n table st turn row
-      → Fitting table log (votes_in book ++ cast_rows (turn_of turn) row.votes) (after_row n st turn row.event row.letters)
+      → Fitting table log (votes_in book ++ cast_votes (turn_of turn) row.votes) (after_row n st turn row.event row.letters)
   unfolding after_row
   row_fits (Did who cause None) row may =
-      fitting_on table log (votes_in book) (cast_rows who row.votes) st _ [] [] fits (sym (append-nil st.held)) (sym (append-nil st.late)) fits.once
+      fitting_on table log (votes_in book) (cast_votes (Some who) row.votes) st _ [] [] fits (sym (append-nil st.held)) (sym (append-nil st.late)) fits.once
       (λ other has. nothing_in has) (λ other has. nothing_in has) (waits_then who None (calls_of (acts_at n st who row.event)) may.1.call)
       (cast_fits st.held table log who row.votes (λ vote has. turn_votes n table book few legal log is_log fits who cause row.event may.0 vote (subst (λ votes. Contains votes vote) may.1.votes has)))
   row_fits (Did who cause (Some made)) row may =
-      fitting_on table log (votes_in book) (cast_rows who row.votes) st _ _ _ fits refl refl
+      fitting_on table log (votes_in book) (cast_votes (Some who) row.votes) st _ _ _ fits refl refl
       (names_once n st (Did who cause (Some made)) row.event row.letters fits.once)
       (λ other has. subst (IsBacked table log) (call_holds made.fate made.row (under made.row.name st.held) other has) (call_backs who cause row made may))
       (λ other has. subst (IsBacked table log) (call_is_late made.fate made.row (under made.row.name st.held) other has) (call_backs who cause row made may))
       (waits_then who (Some made) (calls_of (acts_at n st who row.event)) may.1.call)
       (cast_fits st.held table log who row.votes (λ vote has. turn_votes n table book few legal log is_log fits who cause row.event may.0 vote (subst (λ votes. Contains votes vote) may.1.votes has)))
   row_fits (Stopped who None kept) row (member, runs, not_kept, nothing) =
-      fitting_on table log (votes_in book) (cast_rows who row.votes) st _ [] [] fits (sym (append-nil st.held)) (sym (append-nil st.late)) fits.once
+      fitting_on table log (votes_in book) (cast_votes (Some who) row.votes) st _ [] [] fits (sym (append-nil st.held)) (sym (append-nil st.late)) fits.once
       (λ other has. nothing_in has) (λ other has. nothing_in has) (λ q other is. fits.waits q other (none_waits who st.waits q other is))
       (cast_fits st.held table log who row.votes (no_votes st.held table log row.votes nothing.votes))
   row_fits (Stopped who (Some cause) kept) row (takes, within) =
-      fitting_on table log (votes_in book) (cast_rows who row.votes) st _ [] [] fits (sym (append-nil st.held)) (sym (append-nil st.late)) fits.once
+      fitting_on table log (votes_in book) (cast_votes (Some who) row.votes) st _ [] [] fits (sym (append-nil st.held)) (sym (append-nil st.late)) fits.once
       (λ other has. nothing_in has) (λ other has. nothing_in has) (λ q other is. fits.waits q other (none_waits who st.waits q other is))
       (cast_fits st.held table log who row.votes (λ vote has. turn_votes n table book few legal log is_log fits who cause row.event takes vote
       (kept_vote (acts_at n st who row.event) within.delta kept vote within.changes (subst (λ votes. Contains votes vote) within.votes has))))
   row_fits (Restarted who) row (member, stopped, nothing) =
-      fitting_on table log (votes_in book) (cast_rows who row.votes) st _ [] [] fits (sym (append-nil st.held)) (sym (append-nil st.late)) fits.once
+      fitting_on table log (votes_in book) (cast_votes (Some who) row.votes) st _ [] [] fits (sym (append-nil st.held)) (sym (append-nil st.late)) fits.once
       (λ other has. nothing_in has) (λ other has. nothing_in has) fits.waits
       (cast_fits st.held table log who row.votes (no_votes st.held table log row.votes nothing.votes))
   row_fits (Arrived number) row (late, nothing) =
       let came : arriving (late_call number st.late) st.held ≡ st.held ++ added late.row (under late.row.name st.held) = ap (λ call. arriving call st.held) late.there in
-      fitting_on table log (votes_in book) (cast_rows 0 row.votes) st _ (added late.row (under late.row.name st.held)) [] fits came (sym (append-nil st.late))
+      fitting_on table log (votes_in book) [] st _ (added late.row (under late.row.name st.held)) [] fits came (sym (append-nil st.late))
       (names_once n st (Arrived number) row.event row.letters fits.once)
       (λ other has. subst (IsBacked table log) (added_is late.row (under late.row.name st.held) other has) (fits.late late.row (found_in st.late number late.row late.there)))
       (λ other has. nothing_in has)
       (λ q other is. subst (λ rows. Contains rows other) (sym came) (Contains-append_left st.held (added late.row (under late.row.name st.held)) other (fits.waits q other is)))
-      (cast_fits st.held table log 0 row.votes (no_votes st.held table log row.votes nothing.votes))
+      (λ cast has. nothing_in has)
 
 -- ---- books
 
@@ -233,7 +232,7 @@ module _ (n : ℕ) (table : Table) (book : List Row) (few : n ≤ 7) (legal : Is
 abbrev pub Fitted : ℕ → Table → List Row → Type 0
 Fitted n table book = (log : List Entry) → IsLog n (votes_in book) log → Fitting table log (votes_in book) (standing_after n (first_rows table) book)
 
-votes_push : (book : List Row) (row : Row) → votes_in (book ++ row ∷ []) ≡ votes_in book ++ cast_rows (turn_of row.turn) row.votes
+votes_push : (book : List Row) (row : Row) → votes_in (book ++ row ∷ []) ≡ votes_in book ++ cast_votes (turn_of row.turn) row.votes
 votes_push book row = flat_map-append _ book (row ∷ []) ∙ ap (λ rows. votes_in book ++ rows) (append-nil _)
 
 next_fitted : (n : ℕ) (table : Table) (book : List Row) (row : Row) → n ≤ 7 → IsLegal n table book → IsLegal n table (book ++ row ∷ [])
@@ -242,12 +241,12 @@ next_fitted n table book row few legal longer may fitted later is_later =
     let log = book_log n table book few legal in
     let fits = row_fits n table book few legal log.0 log.1 (fitted log.0 log.1) row.turn row may in
     let among : (vote : CastVote) → Contains (votes_in book) vote → Contains (votes_in (book ++ row ∷ [])) vote =
-    λ vote has. subst (λ votes. Contains votes vote) (sym (votes_push book row)) (Contains-append_left (votes_in book) (cast_rows (turn_of row.turn) row.votes) vote has) in
+    λ vote has. subst (λ votes. Contains votes vote) (sym (votes_push book row)) (Contains-append_left (votes_in book) (cast_votes (turn_of row.turn) row.votes) vote has) in
     let on = log_goes_on n table (book ++ row ∷ []) (votes_in book) log.0 later few longer among log.1 is_later in
     subst (λ some. Fitting table some (votes_in (book ++ row ∷ [])) (standing_after n (first_rows table) (book ++ row ∷ []))) (sym on.1)
     (fitting_more table log.0 on.0 (votes_in (book ++ row ∷ [])) (standing_after n (first_rows table) (book ++ row ∷ []))
     (subst (λ votes. Fitting table log.0 votes (standing_after n (first_rows table) (book ++ row ∷ []))) (sym (votes_push book row))
-    (subst (λ st. Fitting table log.0 (votes_in book ++ cast_rows (turn_of row.turn) row.votes) st) (sym (fold_push _ (first_standing n (first_rows table)) book row)) fits)))
+    (subst (λ st. Fitting table log.0 (votes_in book ++ cast_votes (turn_of row.turn) row.votes) st) (sym (fold_push _ (first_standing n (first_rows table)) book row)) fits)))
 
 front_fitted : (n : ℕ) (table : Table) (book : List Row) (k : ℕ) → n ≤ 7 → IsLegal n table book → k ≤ length book → Fitted n table (take k book)
 front_fitted n table book zero few legal within = λ log is_log. first_fitting n table log

@@ -23,13 +23,12 @@ use Rattle.agreement.specs.Agree.{vote_for}
 use Rattle.agreement.specs.Log.{AreChosen, IsLog}
 use Rattle.agreement.specs.World.{CastVote}
 use Rattle.agreement.proofs.OneValue.{voter_of}
-use Rattle.history.specs.Book.{Row, Standing, after_row, arriving, first_standing, late_call, standing_after, turn_of, under, votes_in}
+use Rattle.history.specs.Book.{Row, Standing, after_row, arriving, cast_votes, first_standing, late_call, standing_after, turn_of, under, votes_in}
 use Rattle.history.specs.Legal.{IsLegal, MayFollow}
 use Rattle.history.specs.declared.turn.Cause.{Cause}
 use Rattle.history.specs.declared.turn.Cause.TheVariants as causes
 use Rattle.history.specs.declared.turn.Turn.{Turn}
 use Rattle.history.specs.declared.turn.Turn.TheVariants.{Did, Stopped, Restarted, Arrived}
-use Rattle.history.proofs.Acts.{cast_rows}
 use Rattle.history.proofs.Agreement.{cut_is_legal}
 use Rattle.launch_safety.proofs.LogLemmas.{chosen_there}
 use Rattle.launch_safety.specs.Readings.{AreTurnsBy, IsTurnBy, ReadsBy}
@@ -46,6 +45,8 @@ asked_more n table book more slot now wanted known = record {
   row = known.row;
   back = known.back ++ more;
   parts = ap (λ rows. rows ++ more) known.parts ∙ append_assoc known.front (known.row ∷ known.back) more;
+  who = known.who;
+  turn_is = known.turn_is;
   reads = known.reads;
   learned = known.learned;
   launch = known.launch;
@@ -59,6 +60,8 @@ asked_here n table book row slot now wanted asks = record {
   row = row;
   back = [];
   parts = refl;
+  who = asks.who;
+  turn_is = asks.turn_is;
   reads = asks.reads;
   learned = asks.learned;
   launch = asks.launch;
@@ -143,8 +146,8 @@ module _ (n : ℕ) (table : Table) (book : List Row) (few : n ≤ 7) (legal : Is
   old_late : (other : SchedRow) → Contains st.late other → IsCallAsked n table longer other
   old_late other has = call_more n table book (row ∷ []) other (known.calls.late other has)
 
-  next_votes : MayFollow n table st row.turn row → (cast : CastVote) → Contains (votes_in book ++ cast_rows (turn_of row.turn) row.votes) cast → IsEntryAsked n table longer cast.vote.slot cast.vote.entry
-  next_votes may cast has = elim (Contains-append_cases (votes_in book) (cast_rows (turn_of row.turn) row.votes) cast has) [
+  next_votes : MayFollow n table st row.turn row → (cast : CastVote) → Contains (votes_in book ++ cast_votes (turn_of row.turn) row.votes) cast → IsEntryAsked n table longer cast.vote.slot cast.vote.entry
+  next_votes may cast has = elim (Contains-append_cases (votes_in book) (cast_votes (turn_of row.turn) row.votes) cast has) [
     | inl old ↦ entry_more n table book (row ∷ []) cast.vote.slot cast.vote.entry (known.starts cast old)
     | inr now ↦ elim (row_votes n table book few legal row.turn row may cast now) [
       | inl before ↦
@@ -191,7 +194,7 @@ module _ (n : ℕ) (table : Table) (book : List Row) (few : n ≤ 7) (legal : Is
 abbrev IsAsked : ℕ → Table → List Row → Type 0
 IsAsked n table book = AllAsked n table book (votes_in book) (standing_after n (first_rows table) book)
 
-votes_push : (book : List Row) (row : Row) → votes_in (book ++ row ∷ []) ≡ votes_in book ++ cast_rows (turn_of row.turn) row.votes
+votes_push : (book : List Row) (row : Row) → votes_in (book ++ row ∷ []) ≡ votes_in book ++ cast_votes (turn_of row.turn) row.votes
 votes_push book row = flat_map-append _ book (row ∷ []) ∙ ap (λ rows. votes_in book ++ rows) (append-nil _)
 
 next_asked : (n : ℕ) (table : Table) (book : List Row) (row : Row) → n ≤ 7 → IsLegal n table book

@@ -24,19 +24,21 @@ ReadsAt now (Did who cause made) = TicksAt now cause
 ReadsAt now (Stopped who (Some cause) kept) = TicksAt now cause
 ReadsAt now turn = ⊥
 
--- the replica that has the turn, before it
-abbrev pub state_before : ℕ → Table → List Row → Turn → State
-state_before members table front turn = (standing_after members (first_rows table) front).replicas (turn_of turn)
+-- the state of a replica after these rows, before the turn that comes next
+abbrev pub state_before : ℕ → Table → List Row → (who : ℕ) → State
+state_before members table front who = (standing_after members (first_rows table) front).replicas who
 
--- In a turn of the book the clock read the instant, and the launch table of the replica, which had learned all below the slot, asked
--- for this then.
+-- In a turn of the book the clock read the instant, and the launch table of the replica whose turn it was, and which had learned all
+-- below the slot, asked for this then.
 pub record IsAskedAt (members : ℕ) (table : Table) (book : List Row) (slot : ℕ) (now : ℤ) (intent : Intent) : Type 0 where
   pub front : List Row
   pub row : Row
   pub back : List Row
   pub parts : book ≡ front ++ row ∷ back
+  pub who : ℕ
+  pub turn_is : turn_of row.turn ≡ Some who
   pub reads : ReadsAt now row.turn
-  pub learned : prefix_of (state_before members table front row.turn) ≡ slot
+  pub learned : prefix_of (state_before members table front who) ≡ slot
   pub launch : List JobRow
-  pub launch_is : IsLaunchTable table (state_before members table front row.turn) launch
+  pub launch_is : IsLaunchTable table (state_before members table front who) launch
   pub asks : IsIntent table launch now intent

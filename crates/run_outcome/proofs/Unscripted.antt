@@ -50,12 +50,13 @@ use Rattle.history.proofs.FrontLemmas.{front_legal, follows_there}
 use Rattle.launch_safety.proofs.SettledLemmas.{row_of}
 
 -- who has a turn that reads an instant is one of the replicas
-member_of : (n : ℕ) (table : Table) (standing : Standing) (turn : Turn) (row : Row) (now : ℤ) → MayFollow n table standing turn row → ReadsAt now turn → turn_of turn < n
-member_of n table standing (Did who cause made) row now may reads = may.0.member
-member_of n table standing (Stopped who None kept) row now may reads = absurd reads
-member_of n table standing (Stopped who (Some cause) kept) row now may reads = may.0.member
-member_of n table standing (Restarted who) row now may reads = absurd reads
-member_of n table standing (Arrived number) row now may reads = absurd reads
+member_of : (n : ℕ) (table : Table) (standing : Standing) (turn : Turn) (row : Row) (now : ℤ) (who : ℕ) → MayFollow n table standing turn row → ReadsAt now turn
+    → turn_of turn ≡ Some who → who < n
+member_of n table standing (Did other cause made) row now who may reads of = let same : other ≡ who = cc in subst (λ k. k < n) same may.0.member
+member_of n table standing (Stopped other None kept) row now who may reads of = absurd reads
+member_of n table standing (Stopped other (Some cause) kept) row now who may reads of = let same : other ≡ who = cc in subst (λ k. k < n) same may.0.member
+member_of n table standing (Restarted other) row now who may reads of = absurd reads
+member_of n table standing (Arrived number) row now who may reads of = absurd reads
 
 module _ (n : ℕ) (table : Table) (rows : List Row) (few : n ≤ 7) (legal : IsLegal n table rows) (known : AllDrained n table rows) (log : List Entry) (is_log : IsLog n (votes_in rows) log) where
   part_legal : (front back : List Row) → rows ≡ front ++ back → IsLegal n table front
@@ -89,12 +90,9 @@ module _ (n : ℕ) (table : Table) (rows : List Row) (few : n ≤ 7) (legal : Is
     abbrev known_to : ℕ
     known_to = prefix_of ((standing_after n (first_rows table) upto).replicas quiet.who)
 
-    abbrev asker : ℕ
-    asker = turn_of asked.row.turn
-
-    asker_in : asker < n
-    asker_in = member_of n table (standing_after n (first_rows table) asked.front) asked.row.turn asked.row now
-        (follows_there n table asked.front asked.back asked.row (subst (λ some. IsLegal n table some) asked.parts legal)) asked.reads
+    asker_in : asked.who < n
+    asker_in = member_of n table (standing_after n (first_rows table) asked.front) asked.row.turn asked.row now asked.who
+        (follows_there n table asked.front asked.back asked.row (subst (λ some. IsLegal n table some) asked.parts legal)) asked.reads asked.turn_is
 
     all_go : AllGoOn (asked.row ∷ drained.mid)
     all_go = go_back asked.front (asked.row ∷ drained.mid) (go_front upto drained.rest (subst AllGoOn upto_parts known.goes))
@@ -102,9 +100,9 @@ module _ (n : ℕ) (table : Table) (rows : List Row) (few : n ≤ 7) (legal : Is
     -- all have learned up to its slot by then
     up : slot ≤ known_to
     up =
-        let rose = rises n table asked.front (asked.row ∷ drained.mid) asker few upto_legal all_go in
+        let rose = rises n table asked.front (asked.row ∷ drained.mid) asked.who few upto_legal all_go in
         let learned = asked.learned in
-        let caught_up = quiet.caught_up asker asker_in in
+        let caught_up = quiet.caught_up asked.who asker_in in
         omega (arith, rose, learned, caught_up)
 
     upto_log : (some : List Entry) × IsLog n (votes_in upto) some
@@ -207,8 +205,8 @@ module _ (n : ℕ) (table : Table) (rows : List Row) (few : n ≤ 7) (legal : Is
           let stood = known.each call.front call.row call.back row.now.0 call_parts call.reads in
           let read : AreTurnsBy row.now.0 call.front = by_front row.now.0 call.front (call.row ∷ stood.mid) stood.drained.by in
           let (call_log, is_call_log) = book_log n table call.front few call_legal in
-          let state = prefix_of ((standing_after n (first_rows table) call.front).replicas (turn_of call.row.turn)) in
-          let clerk_then = table_at n table call.front call_log (turn_of call.row.turn) call.launch few call_legal is_call_log call.launch_is in
+          let state = prefix_of ((standing_after n (first_rows table) call.front).replicas call.who) in
+          let clerk_then = table_at n table call.front call_log call.who call.launch few call_legal is_call_log call.launch_is in
           let may : MayCall table call.launch row.name.job row.name.at row.now.0 = call.asks.0.may in
           let before = start_before table (take state call_log) call.launch row.name.job row.name.at clerk_then
           (record { row = may.row; is_row = may.is_row; since = may.since; is_open = may.is_open; cursor = may.cursor }) in
@@ -258,7 +256,7 @@ module _ (n : ℕ) (table : Table) (rows : List Row) (few : n ≤ 7) (legal : Is
           absurd (omega (arith, ints, read, sooner))
       go (later less front rest) =
           let ask = asked other date later_now second in
-          let who = asker other date later_now second in
+          let who = ask.who in
           let ask_legal : IsLegal n table (upto one at now first ++ less) = subst (λ some. IsLegal n table some) front (part_legal ask.front (ask.row ∷ ask.back) ask.parts) in
           let go_on : AllGoOn (upto one at now first ++ less) = subst AllGoOn front (go_front ask.front (ask.row ∷ ask.back) (subst AllGoOn ask.parts known.goes)) in
           let rose = rises n table (upto one at now first) less who few ask_legal (go_back (upto one at now first) less go_on) in

@@ -202,7 +202,7 @@ pub fn a_fate_is_spent_by_its_replicas_call()
         → IsTurnFor situation.fates (Do who cause) (Did who cause (Some made)) → made.fate ≡ situation.fates who }
     ensures call { (members : ℕ) (situation : Situation) (row : Row) (who : ℕ) (cause : Cause) (made : CallRow)
         → row.turn ≡ Did who cause (Some made) → (after_turn members situation row).fates who ≡ fate.Done }
-    ensures others { (members : ℕ) (situation : Situation) (row : Row) (other : ℕ) → other ≢ turn_of row.turn
+    ensures others { (members : ℕ) (situation : Situation) (row : Row) (other : ℕ) → turn_of row.turn ≢ Some other
         → (after_turn members situation row).fates other ≡ situation.fates other }
     ensures no_call { (members : ℕ) (situation : Situation) (row : Row)
         → ((who : ℕ) (cause : Cause) (made : CallRow) → row.turn ≡ Did who cause (Some made) → ⊥)

@@ -10,7 +10,7 @@ use Rattle.launch_machine.specs.Clerk.{first_rows}
 use Rattle.step_spec.specs.State.{State}
 use Rattle.step_spec.proofs.Lists.{nothing_in}
 use Rattle.agreement.specs.Transition.{identity_of}
-use Rattle.history.specs.Book.{PostedLetter, Row, Standing, after_row, first_standing, standing_after}
+use Rattle.history.specs.Book.{PostedLetter, Row, Standing, after_row, first_standing, standing_after, turn_of}
 use Rattle.history.specs.Legal.{IsLegal}
 use Rattle.history.specs.declared.turn.Turn.{Turn}
 use Rattle.history.specs.declared.turn.Turn.TheVariants.{Did, Stopped, Restarted, Arrived}
@@ -25,7 +25,7 @@ use Rattle.script_semantics.proofs.PartLemmas.{course_with_others, goes_none, go
 use Rattle.turn_book.specs.Rows.{BeginsWith}
 use Rattle.turn_book.specs.Turns.{HasHistory, first_rows_by, opening_of, own_rows, seats_of, seen_by}
 use Rattle.world_law.specs.Book.{BookState, StandsBehind, posted_as, standing_behind}
-use Rattle.world_law.specs.Rows.{HasRows, HasTurnOf, seat_of}
+use Rattle.world_law.specs.Rows.{HasRows, HasTurnOf}
 use Rattle.world_law.specs.contracts.turns.BookLaw.TheImpl as law
 use Rattle.world_law.specs.declared.letter.LetterRow.{LetterRow}
 use Rattle.world_law.specs.declared.row.BookRow.{BookRow}
@@ -65,7 +65,7 @@ posted_more posted more all who number are sent =
 
 -- ---- the seat of a row
 
-pub named_by : (turn : Turn) (number : ℕ) → seat_of turn ≡ Some number → is_turn_of number turn ≡ true
+pub named_by : (turn : Turn) (number : ℕ) → turn_of turn ≡ Some number → is_turn_of number turn ≡ true
 named_by (Did who cause made) number is = let same : who ≡ number = cc in eq-eqb who number same
 named_by (Stopped who cause kept) number is = let same : who ≡ number = cc in eq-eqb who number same
 named_by (Restarted who) number is = let same : who ≡ number = cc in eq-eqb who number same
@@ -86,7 +86,7 @@ pub record IsClosed (plan : FreePlan) (count : ℕ) (seats : List Seat) (new : B
   pub first : List BookRow
   pub after : List BookRow
   pub begins : HasRows plan.table first plan.book
-  pub named : (place : ℕ) (row : BookRow) → slice_get after place ≡ Some row → (number : ℕ) × (seat_of row.turn ≡ Some number) × (number < count)
+  pub named : (place : ℕ) (row : BookRow) → slice_get after place ≡ Some row → (number : ℕ) × (turn_of row.turn ≡ Some number) × (number < count)
   pub own : (place : ℕ) (seat : Seat) → slice_get seats place ≡ Some seat → own_rows seat ≡ rows_by place after
   pub saw : (place : ℕ) (seat : Seat) → slice_get seats place ≡ Some seat → BeginsWith (first ++ after) (seen_by seat)
   pub same : (place : ℕ) (seat : Seat) (rows : List BookRow) → slice_get seats place ≡ Some seat → first_rows_by seat ≡ Some rows → rows ≡ first

@@ -4,7 +4,7 @@ use Rattle.std.specs.Prelude.{is_some}
 use Rattle.std.specs.Option.{option_to_list}
 use Rattle.disk_model.specs.View.{DiskView}
 use Rattle.due_set.specs.Table.{Table}
-use Rattle.history.specs.Book.{Row}
+use Rattle.history.specs.Book.{Row, turn_of}
 use Rattle.history.specs.Legal.{IsMade}
 use Rattle.history.specs.declared.turn.CallRow.{CallRow}
 use Rattle.history.specs.declared.turn.Cause.{Cause}
@@ -22,7 +22,7 @@ use Rattle.turn_book.proofs.RowLemmas.{is_own}
 use Rattle.world_law.specs.contracts.turns.BookLaw.TheImpl as law
 use Rattle.world_law.specs.Book.{BookState, StandsBehind, standing_behind}
 use Rattle.world_law.specs.Replicas.{change_alone}
-use Rattle.world_law.specs.Rows.{HasRows, MayComeNext, seat_of}
+use Rattle.world_law.specs.Rows.{HasRows, MayComeNext}
 use Rattle.world_law.specs.declared.row.BookRow.{BookRow}
 use Rattle.world_steps.specs.Nodes.{IsDiskAt}
 use Rattle.world_steps.specs.Turns.{IsHalted, MayJoin, noted}
@@ -110,7 +110,7 @@ shows_book plan book who after seat turn of at turn_at shows rests = record {
 
 -- the seat after the turn
 pub seat_then : (plan : FreePlan) (book : SharedBook) (who : ℕ) (after : List BookRow) (seat new : Seat) (turn : SeatTurn) (row : BookRow) → (shows : Shows plan who after seat turn)
-    → seat_of row.turn ≡ Some who → IsSeatOf book new → number_of new ≡ who → first_rows_by new ≡ first_rows_at turn → own_rows new ≡ own_at turn ++ row ∷ [] → seen_by new ≡ shown_at turn ++ row ∷ []
+    → turn_of row.turn ≡ Some who → IsSeatOf book new → number_of new ≡ who → first_rows_by new ≡ first_rows_at turn → own_rows new ≡ own_at turn ++ row ∷ [] → seen_by new ≡ shown_at turn ++ row ∷ []
     → IsSeatAt book who ((after ++ shows.gone) ++ row ∷ []) new
 seat_then plan book who after seat new turn row shows mine of_book number first owns saw = record {
   of_book = of_book;
@@ -120,13 +120,13 @@ seat_then plan book who after seat new turn row shows mine of_book number first 
     first ∙ shows.first_is,
     saw ∙ ap (λ rows. rows ++ row ∷ []) shows.shown ∙ append_assoc shows.first (after ++ shows.gone) (row ∷ []),
   );
-  own = owns ∙ ap (λ rows. rows ++ row ∷ []) shows.own ∙ sym (is_own (λ (r : BookRow). seat_of r.turn) who (after ++ shows.gone) row mine);
+  own = owns ∙ ap (λ rows. rows ++ row ∷ []) shows.own ∙ sym (is_own (λ (r : BookRow). turn_of r.turn) who (after ++ shows.gone) row mine);
 }
 
 -- so it has taken one
 pub takes_one : (plan : FreePlan) (book : SharedBook) (who : ℕ) (seat new : Seat) (turn : SeatTurn) (row : BookRow) → IsOfPlan plan book → IsTurnAt book seat turn
     → ShowsHistory law.ghosts seat turn → ShowsRest law.ghosts turn
-    → seat_of row.turn ≡ Some who → IsSeatOf (book_at turn) new → number_of new ≡ number_at turn → first_rows_by new ≡ first_rows_at turn
+    → turn_of row.turn ≡ Some who → IsSeatOf (book_at turn) new → number_of new ≡ number_at turn → first_rows_by new ≡ first_rows_at turn
     → own_rows new ≡ own_at turn ++ row ∷ [] → seen_by new ≡ shown_at turn ++ row ∷ [] → TakesOneTurn book who seat new
 takes_one plan book who seat new turn row of at shows rests mine of_book number first owns saw after seat_at =
     let here = shows_book plan book who after seat turn of seat_at at shows rests in

@@ -5,7 +5,7 @@ use Rattle.std.proofs.lemmas.Bool.{cases_Bool}
 use Rattle.std.proofs.lemmas.List.Sums.{fold-append}
 use Rattle.step_spec.specs.Step.{Event}
 use Rattle.step_spec.specs.declared.out.OutLetter.{OutLetter}
-use Rattle.history.specs.Book.{Row, Standing, after_row, post}
+use Rattle.history.specs.Book.{Row, Standing, after_row, post, turn_of}
 use Rattle.history.specs.declared.turn.CallRow.{CallRow}
 use Rattle.history.specs.declared.turn.Cause.{Cause}
 use Rattle.history.specs.declared.turn.Cause.TheVariants.{Campaign, Tick, Hear, Answer}
@@ -20,7 +20,7 @@ use Rattle.script_semantics.specs.Others.{AreOthers, mail_behind}
 use Rattle.script_semantics.proofs.FreeMailLemmas.{Passes, others_pass}
 use Rattle.script_semantics.proofs.PartLemmas.{course_with_others, goes_others, goes_own, seen_next, taken_next}
 use Rattle.turn_book.specs.Rows.{is_seat}
-use Rattle.world_law.specs.Rows.{HasTurnOf, seat_of}
+use Rattle.world_law.specs.Rows.{HasTurnOf}
 use Rattle.world_law.specs.declared.row.BookRow.{BookRow}
 use Rattle.world_steps.proofs.AfterTurn.{did_runs}
 use Rattle.world_free.specs.Jobs.{HasStoppedFreely, HasGone, situation_in}
@@ -31,7 +31,7 @@ use Rattle.history.proofs.Standings.{fact_here}
 
 -- ---- rows of others
 
-is_own : (who : ℕ) (turn : Turn) → is_seat who (seat_of turn) ≡ is_turn_of who turn
+is_own : (who : ℕ) (turn : Turn) → is_seat who (turn_of turn) ≡ is_turn_of who turn
 is_own who (Did other cause made) = refl
 is_own who (Stopped other cause kept) = refl
 is_own who (Restarted other) = refl
@@ -42,7 +42,7 @@ pub others_behind : (who : ℕ) (rows : List BookRow) (behind : List Row) → Al
 others_behind who [] [] each none = tt
 others_behind who [] (next ∷ behind) each none = absurd each
 others_behind who (row ∷ rows) [] each none = absurd each
-others_behind who (row ∷ rows) (next ∷ behind) each none = elim (cases_Bool (is_seat who (seat_of row.turn))) [
+others_behind who (row ∷ rows) (next ∷ behind) each none = elim (cases_Bool (is_seat who (turn_of row.turn))) [
   | inl is ↦ absurd (let some : row ∷ rows_by who rows ≡ [] = sym (rw is refl) ∙ none in cc)
   | inr differs ↦ (
     ap (is_turn_of who) each.0.turn_is ∙ sym (is_own who row.turn) ∙ differs,

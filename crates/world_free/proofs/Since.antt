@@ -8,7 +8,7 @@ use Rattle.step_spec.specs.Folds.{deltas_of}
 use Rattle.step_spec.specs.State.{State}
 use Rattle.step_spec.specs.Step.{Event, step}
 use Rattle.agreement.specs.Transition.{identity_of}
-use Rattle.history.specs.Book.{PostedLetter, Row, Standing, acts_at}
+use Rattle.history.specs.Book.{PostedLetter, Row, Standing, acts_at, turn_of}
 use Rattle.history.specs.Legal.{IsLegal, MayFollow, TakesTurn}
 use Rattle.history.specs.declared.turn.Cause.{Cause}
 use Rattle.history.specs.declared.turn.Cause.TheVariants.{Campaign, Tick, Hear, Answer}
@@ -23,7 +23,7 @@ use Rattle.turn_book.specs.Rows.{BeginsWith, is_seat}
 use Rattle.turn_book.specs.Turns.{first_rows_by, own_rows, seen_by}
 use Rattle.world_law.specs.Book.{BookState, StandsBehind, posted_as, standing_behind}
 use Rattle.world_law.specs.Replicas.{IsInputOf, IsLetterInput, StandsAt}
-use Rattle.world_law.specs.Rows.{HasRows, HasTurnOf, seat_of}
+use Rattle.world_law.specs.Rows.{HasRows, HasTurnOf}
 use Rattle.world_law.specs.declared.letter.LetterRow.{LetterRow}
 use Rattle.world_law.specs.declared.row.BookRow.{BookRow}
 use Rattle.world_law.proofs.Rows.{turns_are, turns_behind}
@@ -71,7 +71,7 @@ since book who first after now seat at same owns begins = go at.seen
           goes_on = more;
           others =
               none_behind (rows_by who after) (rows_by who begins.0)
-              (sym (filter-append (λ (row : BookRow). is_seat who (seat_of row.turn)) after begins.0) ∙ ap (rows_by who) (sym more) ∙ sym owns ∙ at.own);
+              (sym (filter-append (λ (row : BookRow). is_seat who (turn_of row.turn)) after begins.0) ∙ ap (rows_by who) (sym more) ∙ sym owns ∙ at.own);
         }
 
 -- ---- the rows behind the book as it is now

@@ -8,14 +8,13 @@ use Rattle.paxos_base.specs.declared.entry.Entry.{Entry}
 use Rattle.paxos_base.specs.declared.rows.JobRow.{JobRow}
 use Rattle.step_spec.specs.State.{prefix_of}
 use Rattle.agreement.specs.Log.{IsLog}
-use Rattle.history.specs.Book.{Row, votes_in}
+use Rattle.history.specs.Book.{Row, turn_of, votes_in}
 use Rattle.replica_core.specs.Replica.{ReplicaState}
 use Rattle.script_semantics.specs.Free.{after_posted, is_turn_of}
 use Rattle.script_semantics.specs.Others.{AreOthers}
 use Rattle.script_semantics.specs.Situation.{Situation}
 use Rattle.status_board.specs.Writing.{HasNext, Writing}
 use Rattle.status_board.specs.declared.shown.Shown.{Shown}
-use Rattle.world_law.specs.Rows.{seat_of}
 use Rattle.world_law.specs.declared.row.BookRow.{BookRow}
 use Rattle.world_free.specs.Plan.{ArePlayed, FreePlan, Seat, SharedBook}
 use Rattle.world_free.specs.Seats.{IsSeatAt, rows_by}
@@ -105,7 +104,7 @@ pub record HasTurnMore (book : SharedBook) (who : ℕ) (after : List BookRow) (s
   pub gone : List BookRow
   pub others : rows_by who gone ≡ []
   pub row : BookRow
-  pub mine : seat_of row.turn ≡ Some who
+  pub mine : turn_of row.turn ≡ Some who
   pub at : IsSeatAt book who ((after ++ gone) ++ row ∷ []) seat
 
 -- a seat has taken one turn

@@ -1,5 +1,5 @@
 -- A book that a turn is added to has the rows of that turn behind it as well.
-use Rattle.std.proofs.Common.{◌≡◌, ℕ, ◌+◌, List, [], ◌∷◌, ◌++◌, length, map, Some, None, refl, sym, ap, ◌∙◌, arith, subst}
+use Rattle.std.proofs.Common.{◌≡◌, ℕ, ◌+◌, List, [], ◌∷◌, ◌++◌, length, map, Option, Some, None, refl, sym, ap, ◌∙◌, arith, subst}
 use Rattle.std.specs.List.{enumerate_from, flat_map}
 use Rattle.std.proofs.lemmas.List.{length-map, map-append}
 use Rattle.std.proofs.lemmas.List.Concat.{flat_map-append}
@@ -22,13 +22,28 @@ use Rattle.world_law.specs.declared.letter.LetterRow.{LetterRow}
 
 -- ---- letters
 
-posted_rows : (from turn : ℕ) (letters : List OutLetter) → map posted_as (letter_rows from turn letters) ≡ post from letters
-posted_rows from turn [] = refl
-posted_rows from turn (letter ∷ letters) = ap (λ (more : List PostedLetter). record { from = from; to = letter.to; bytes = letter.bytes } ∷ more) (posted_rows from turn letters)
+-- the letters that a replica posts, and none where there is none
+abbrev post_by : Option ℕ → List OutLetter → List PostedLetter
+post_by None letters = []
+post_by (Some from) letters = post from letters
 
-turns_of_rows : (from turn : ℕ) (letters : List OutLetter) → map (λ (letter : LetterRow). letter.turn) (letter_rows from turn letters) ≡ map (λ (letter : OutLetter). turn) letters
+posted_rows : (from : Option ℕ) (turn : ℕ) (letters : List OutLetter) → map posted_as (letter_rows from turn letters) ≡ post_by from letters
+posted_rows None turn letters = refl
+posted_rows (Some from) turn [] = refl
+posted_rows (Some from) turn (letter ∷ letters) =
+    ap (λ (more : List PostedLetter). record { from = from; to = letter.to; bytes = letter.bytes } ∷ more) (posted_rows (Some from) turn letters)
+
+turns_of_rows : (from turn : ℕ) (letters : List OutLetter) → map (λ (letter : LetterRow). letter.turn) (letter_rows (Some from) turn letters) ≡ map (λ (letter : OutLetter). turn) letters
 turns_of_rows from turn [] = refl
 turns_of_rows from turn (letter ∷ letters) = ap (λ (more : List ℕ). turn ∷ more) (turns_of_rows from turn letters)
+
+-- each letter of a row has the number of its turn, and an arrival has no letter
+turns_of_row : (n : ℕ) (table : Table) (s : Standing) (turn : Turn) (number : ℕ) (row : Row) → MayFollow n table s turn row
+    → map (λ (letter : LetterRow). letter.turn) (letter_rows (turn_of turn) number row.letters) ≡ map (λ (letter : OutLetter). number) row.letters
+turns_of_row n table s (Did who cause made) number row may = turns_of_rows who number row.letters
+turns_of_row n table s (Stopped who cause kept) number row may = turns_of_rows who number row.letters
+turns_of_row n table s (Restarted who) number row may = turns_of_rows who number row.letters
+turns_of_row n table s (Arrived late) number row may = rw may.1.letters refl
 
 enumerated : {X : Type 0} (n : ℕ) (xs : List X) (x : X) → enumerate_from n (xs ++ x ∷ []) ≡ enumerate_from n xs ++ (n + length xs, x) ∷ []
 enumerated {X} n [] x = let same : n ≡ n + 0 = omega arith in ap {B = List (ℕ × X)} (λ k. (k, x) ∷ []) same
@@ -52,13 +67,13 @@ posting_next rows row =
 -- ---- what stands after a turn
 
 posts : (n : ℕ) (table : Table) (s : Standing) (turn : Turn) (row : Row) → MayFollow n table s turn row
-    → (after_row n s turn row.event row.letters).posted ≡ s.posted ++ post (turn_of turn) row.letters
+    → (after_row n s turn row.event row.letters).posted ≡ s.posted ++ post_by (turn_of turn) row.letters
 unfolding after_row
 posts n table s (Did who cause made) row may = refl
 posts n table s (Stopped who None kept) row may = rw may.3.letters (sym (append_nil s.posted))
 posts n table s (Stopped who (Some cause) kept) row may = rw may.1.letters (sym (append_nil s.posted))
 posts n table s (Restarted who) row may = rw may.2.letters (sym (append_nil s.posted))
-posts n table s (Arrived number) row may = rw may.1.letters (sym (append_nil s.posted))
+posts n table s (Arrived number) row may = sym (append_nil s.posted)
 
 holds : (n : ℕ) (s : Standing) (turn : Turn) (event : Event) (letters : List OutLetter) (ledger : Holdings) → ledger.held ≡ held_after (call_of turn) s.held
     → ledger.late ≡ late_after (call_of turn) s.held s.late → held_then turn ledger ≡ (after_row n s turn event letters).held
@@ -94,11 +109,11 @@ row_is_added table rows row old new behind may call commits = record {
   letters =
       ap (map posted_as) commits.posted ∙ map-append posted_as old.letters (letter_rows (turn_of row.turn) (length old.turns) row.letters)
       ∙ ap (λ more. map posted_as old.letters ++ more) (posted_rows (turn_of row.turn) (length old.turns) row.letters)
-      ∙ ap (λ before. before ++ post (turn_of row.turn) row.letters) behind.letters
+      ∙ ap (λ before. before ++ post_by (turn_of row.turn) row.letters) behind.letters
       ∙ sym (posts old.members table before row.turn row may) ∙ ap (λ (s : Standing). s.posted) after;
   posting =
       ap (map turn_in) commits.posted ∙ map-append turn_in old.letters (letter_rows (turn_of row.turn) (length old.turns) row.letters)
-      ∙ ap (λ more. map turn_in old.letters ++ more) (turns_of_rows (turn_of row.turn) (length old.turns) row.letters)
+      ∙ ap (λ more. map turn_in old.letters ++ more) (turns_of_row old.members table before row.turn (length old.turns) row may)
       ∙ ap (λ before. before ++ map (λ (letter : OutLetter). length old.turns) row.letters) behind.posting
       ∙ ap (λ n. posting_turns rows ++ map (λ (letter : OutLetter). n) row.letters) (ap length behind.turns ∙ length-map rows (λ (r : Row). r.turn))
       ∙ sym (posting_next rows row);

@@ -1,14 +1,12 @@
 -- A turn leaves the replicas that do not take it where they stood.
-use Rattle.std.proofs.Common.{◌≡◌, ◌≢◌, ℕ, Bool, List, [], ◌∷◌, ◌++◌, refl, ap, ◌∙◌, sym}
-use Rattle.std.proofs.lemmas.Bool.{ne_eqb}
+use Rattle.std.proofs.Common.{◌≡◌, ◌≢◌, ℕ, Bool, Some, List, [], ◌∷◌, ◌++◌, refl, ap, ◌∙◌, sym}
 use Rattle.due_set.specs.Table.{Table}
 use Rattle.launch_machine.specs.Clerk.{first_rows}
 use Rattle.paxos_base.specs.declared.durable.Durable.{Durable}
 use Rattle.step_spec.specs.State.{State}
 use Rattle.step_spec.specs.Step.{Event}
 use Rattle.step_spec.specs.declared.out.OutLetter.{OutLetter}
-use Rattle.agreement.specs.World.{with_replica}
-use Rattle.history.specs.Book.{Row, Standing, after_row, standing_after, turn_of, with_fact}
+use Rattle.history.specs.Book.{Row, Standing, after_row, standing_after, turn_of}
 use Rattle.history.specs.declared.turn.Turn.{Turn}
 use Rattle.history.specs.declared.turn.Turn.TheVariants.{Did, Stopped, Restarted, Arrived}
 use Rattle.history.proofs.Keeping.{stands_next}
@@ -16,21 +14,21 @@ use Rattle.replica_core.specs.Replica.{ReplicaState}
 use Rattle.world_law.specs.Book.{BookState, standing_behind}
 use Rattle.world_law.specs.Replicas.{StandsAt, StandsStopped}
 use Rattle.history.proofs.FrontLemmas.{replica_there}
-use Rattle.history.proofs.Standings.{fact_there}
+use Rattle.history.proofs.Standings.{fact_there, is_another}
 
-pub others_run : (n : ℕ) (s : Standing) (turn : Turn) (event : Event) (letters : List OutLetter) (other : ℕ) → other ≢ turn_of turn
+pub others_run : (n : ℕ) (s : Standing) (turn : Turn) (event : Event) (letters : List OutLetter) (other : ℕ) → turn_of turn ≢ Some other
     → (after_row n s turn event letters).runs other ≡ s.runs other
 unfolding after_row
 others_run n s (Did who cause made) event letters other differs = refl
-others_run n s (Stopped who cause kept) event letters other differs = fact_there who _ s.runs other differs
-others_run n s (Restarted who) event letters other differs = fact_there who _ s.runs other differs
+others_run n s (Stopped who cause kept) event letters other differs = fact_there who _ s.runs other (is_another who other differs)
+others_run n s (Restarted who) event letters other differs = fact_there who _ s.runs other (is_another who other differs)
 others_run n s (Arrived number) event letters other differs = refl
 
-pub others_stay : (n : ℕ) (s : Standing) (turn : Turn) (event : Event) (letters : List OutLetter) (other : ℕ) → other ≢ turn_of turn
+pub others_stay : (n : ℕ) (s : Standing) (turn : Turn) (event : Event) (letters : List OutLetter) (other : ℕ) → turn_of turn ≢ Some other
     → (after_row n s turn event letters).replicas other ≡ s.replicas other
 unfolding after_row
-others_stay n s (Did who cause made) event letters other differs = replica_there who _ s.replicas other differs
-others_stay n s (Stopped who cause kept) event letters other differs = replica_there who _ s.replicas other differs
+others_stay n s (Did who cause made) event letters other differs = replica_there who _ s.replicas other (is_another who other differs)
+others_stay n s (Stopped who cause kept) event letters other differs = replica_there who _ s.replicas other (is_another who other differs)
 others_stay n s (Restarted who) event letters other differs = refl
 others_stay n s (Arrived number) event letters other differs = refl
 
@@ -57,7 +55,7 @@ stands_on table rows row book after other members runs stays at = record {
     next = ap (λ n. standing_after n (first_rows table) (rows ++ row ∷ [])) members ∙ stands_next book.members (first_rows table) rows row
 
 pub others_stand : (table : Table) (rows : List Row) (row : Row) (book after : BookState) (other : ReplicaState) → after.members ≡ book.members
-    → other.identity.me ≢ turn_of row.turn → StandsAt table rows book other → StandsAt table (rows ++ row ∷ []) after other
+    → turn_of row.turn ≢ Some other.identity.me → StandsAt table rows book other → StandsAt table (rows ++ row ∷ []) after other
 others_stand table rows row book after other members differs at =
     stands_on table rows row book after other members
     (others_run book.members (standing_behind table rows book) row.turn row.event row.letters other.identity.me differs)
@@ -85,7 +83,7 @@ stopped_on table rows row book after who kept members runs stays at =
       state = ap (λ (s : Standing). s.replicas who) next ∙ stays ∙ at.state;
     }
 
-pub others_stopped : (table : Table) (rows : List Row) (row : Row) (book after : BookState) (who : ℕ) (kept : Durable) → after.members ≡ book.members → who ≢ turn_of row.turn
+pub others_stopped : (table : Table) (rows : List Row) (row : Row) (book after : BookState) (who : ℕ) (kept : Durable) → after.members ≡ book.members → turn_of row.turn ≢ Some who
     → StandsStopped table rows book who kept → StandsStopped table (rows ++ row ∷ []) after who kept
 others_stopped table rows row book after who kept members differs at =
     stopped_on table rows row book after who kept members

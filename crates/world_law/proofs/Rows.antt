@@ -1,5 +1,5 @@
 -- The rows of a book that threads share, and what may come next after them.
-use Rattle.std.proofs.Common.{◌≡◌, ℕ, ◌≤◌, List, [], ◌∷◌, ◌++◌, map, Some, None, refl, sym, ap, ◌∙◌, subst, arith}
+use Rattle.std.proofs.Common.{◌≡◌, ◌↔◌, ℕ, ◌≤◌, List, [], ◌∷◌, ◌++◌, map, None, refl, sym, ap, ◌∙◌, subst, arith}
 use Rattle.std.specs.List.{AllZip}
 use Rattle.due_set.specs.Table.{Table}
 use Rattle.history.specs.Book.{Row, Standing, turn_of}
@@ -8,7 +8,7 @@ use Rattle.history.specs.declared.turn.Turn.{Turn}
 use Rattle.history.specs.declared.turn.Turn.TheVariants.{Did, Stopped, Restarted, Arrived}
 use Rattle.turn_book.specs.Rows.{MayAdd}
 use Rattle.world_law.specs.Book.{BookState, HasRoom, IsSameBook, IsNext, IsRowOf, StandsBehind, standing_behind}
-use Rattle.world_law.specs.Rows.{HasRows, HasTurnOf, MayComeNext, seat_of}
+use Rattle.world_law.specs.Rows.{HasRows, HasTurnOf, MayComeNext}
 use Rattle.world_law.specs.declared.row.BookRow.{BookRow}
 use Rattle.world_law.proofs.Called.{alike_stands}
 use Rattle.world_law.proofs.Settled.{turns_settle}
@@ -76,17 +76,12 @@ row_joins table before row old new added has may = record {
 
 -- ---- the seats of turns
 
-pub named_by : (turn : Turn) (who : ℕ) → seat_of turn ≡ Some who → turn_of turn ≡ who
-named_by (Did who cause made) other is = cc
-named_by (Stopped who cause kept) other is = cc
-named_by (Restarted who) other is = cc
-named_by (Arrived number) other is = absurd cc
-
-pub named_none : (turn : Turn) → seat_of turn ≡ None → (number : ℕ) × (turn ≡ Arrived number)
+named_none : (turn : Turn) → turn_of turn ≡ None → (number : ℕ) × (turn ≡ Arrived number)
 named_none (Did who cause made) is = absurd cc
 named_none (Stopped who cause kept) is = absurd cc
 named_none (Restarted who) is = absurd cc
 named_none (Arrived number) is = (number, refl)
 
-pub arrival_names_none : (turn : Turn) → (number : ℕ) × (turn ≡ Arrived number) → seat_of turn ≡ None
-arrival_names_none turn is = ap seat_of is.1
+-- an arrival alone is nobody's
+pub names_none : (turn : Turn) → (turn_of turn ≡ None) ↔ ((number : ℕ) × (turn ≡ Arrived number))
+names_none turn = (named_none turn, λ is. ap turn_of is.1)

@@ -14,7 +14,7 @@ use Rattle.step_spec.specs.declared.out.OutLetter.{OutLetter}
 use Rattle.launch_machine.specs.Clerk.{first_rows}
 use Rattle.agreement.specs.World.{CastVote, Learning}
 use Rattle.agreement.specs.Transition.{identity_of}
-use Rattle.history.specs.Book.{Row, Standing, acts_at, after_row, held_after, late_after, learned_in, standing_after, turn_of, votes_in}
+use Rattle.history.specs.Book.{Row, Standing, acts_at, after_row, cast_votes, held_after, late_after, learned_entries, learned_in, standing_after, turn_of, votes_in}
 use Rattle.history.specs.Legal.{IsLegal, MayFollow, kept_votes}
 use Rattle.history.specs.declared.turn.Turn.{Turn}
 use Rattle.history.specs.declared.turn.Turn.TheVariants.{Did, Stopped, Restarted, Arrived}
@@ -118,10 +118,10 @@ learned_next : (front : List Row) (row : Row) → learned_in (front ++ row ∷ [
 learned_next front row = flat_map-append _ front (row ∷ [])
 
 abbrev votes_by : Turn → List Vote → List CastVote
-votes_by turn votes = map (λ vote. record { by = turn_of turn; vote = vote }) votes ++ []
+votes_by turn votes = cast_votes (turn_of turn) votes ++ []
 
 abbrev learned_by : Turn → List LearntRow → List Learning
-learned_by turn learnt = map (λ (row : LearntRow). record { by = turn_of turn; slot = row.slot; entry = row.entry }) learnt ++ []
+learned_by turn learnt = learned_entries (turn_of turn) learnt ++ []
 
 come_on : (n : ℕ) (table : Table) (one other : List Row) (row second : Row) → ComeToOne n table one other → row.turn ≡ second.turn
     → AreAlike n (standing_after n (first_rows table) one) row.turn row second → ComeToOne n table (one ++ row ∷ []) (other ++ second ∷ [])

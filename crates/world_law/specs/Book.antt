@@ -38,9 +38,10 @@ pub record BookState : Type 0 where
   pub pending : Option CallRow
   pub room : Room
 
--- the letters of a step, as a book keeps them
-abbrev pub letter_rows : (from turn : ℕ) → List OutLetter → List LetterRow
-letter_rows from turn letters = map (λ (letter : OutLetter). record { from = from; to = letter.to; turn = turn; bytes = letter.bytes }) letters
+-- the letters that a replica posts in a turn, as a book keeps them; where there is none, none are posted
+abbrev pub letter_rows : (from : Option ℕ) → (turn : ℕ) → List OutLetter → List LetterRow
+letter_rows None turn letters = []
+letter_rows (Some from) turn letters = map (λ (letter : OutLetter). record { from = from; to = letter.to; turn = turn; bytes = letter.bytes }) letters
 
 -- a letter of a book, but for the turn that posted it
 abbrev pub posted_as : LetterRow → PostedLetter

@@ -1,21 +1,12 @@
 -- The rows of a book that threads share, and the rows of history behind them.
-use Rattle.std.specs.Prelude.{ℕ, List, Option, None, Some}
+use Rattle.std.specs.Prelude.{ℕ, List}
 use Rattle.std.specs.List.{AllZip}
 use Rattle.due_set.specs.Table.{Table}
 use Rattle.launch_machine.specs.Clerk.{first_rows}
 use Rattle.history.specs.Book.{Row, standing_after}
 use Rattle.history.specs.Legal.{IsLegal, MayFollow}
-use Rattle.history.specs.declared.turn.Turn.{Turn}
-use Rattle.history.specs.declared.turn.Turn.TheVariants.{Did, Stopped, Restarted, Arrived}
 use Rattle.world_law.specs.Book.{BookState, IsRowOf, StandsBehind}
 use Rattle.world_law.specs.declared.row.BookRow.{BookRow}
-
--- the seat that a turn names: its replica's, and of an arrival none
-abbrev pub seat_of : Turn → Option ℕ
-seat_of (Did who cause made) = Some who
-seat_of (Stopped who cause kept) = Some who
-seat_of (Restarted who) = Some who
-seat_of (Arrived number) = None
 
 -- the row of history has the turn of the other, and what came of it
 abbrev pub HasTurnOf : BookRow → Row → Type 0

@@ -3,7 +3,7 @@ ghost use Rattle.std.specs.Prelude.{◌≡◌, ◌+◌, ◌<◌, ◌≤◌, ◌+
 ghost use Rattle.cluster_sched.specs.Fates.{IsUnchanged};
 ghost use Rattle.cluster_sched.specs.declared.fate.Fate.TheVariants.{Done};
 ghost use Rattle.due_set.specs.Table.{Table};
-ghost use Rattle.history.specs.Book.{Row, arriving, late_call, turn_of};
+ghost use Rattle.history.specs.Book.{Row, arriving, late_call};
 ghost use Rattle.history.specs.Legal.{IsMade, MayFollow};
 ghost use Rattle.world_law.specs.Book.{Commits, HasCalled, HasRoom, IsSameBook, IsLegalBook, IsNext, IsRowOf, MakesCall, MayTickFor, StandsBehind, call_of, letter_rows, standing_behind};
 
@@ -166,23 +166,17 @@ impl Book {
         ensures { Commits turn out.letters self.old self.new }
     {
         let number = self.turns.len() as u64;
-        post(&mut self.letters, poster_of(turn), number, out.letters);
-        if let Turn::Arrived { late } = turn {
-            arrive(&mut self.ledger, late);
-            put_arrival(&mut self.arrived, late);
+        match turn {
+            Turn::Did { who, .. } | Turn::Stopped { who, .. } | Turn::Restarted { who } => {
+                post(&mut self.letters, who, number, out.letters);
+            }
+            Turn::Arrived { late } => {
+                arrive(&mut self.ledger, late);
+                put_arrival(&mut self.arrived, late);
+            }
         }
         put_turn(&mut self.turns, turn);
         self.pending = None;
-    }
-}
-
-// Who has a turn; an arrival is nobody's.
-fn poster_of(turn: Turn) -> u8
-    ensures { result ≡ turn_of turn }
-{
-    match turn {
-        Turn::Did { who, .. } | Turn::Stopped { who, .. } | Turn::Restarted { who } => who,
-        Turn::Arrived { .. } => 0,
     }
 }
 
@@ -264,7 +258,7 @@ fn put_letter(letters: &mut Vec<LetterRow>, letter: LetterRow)
 // Adds the letters of a step, for which there is room.
 fn post(letters: &mut Vec<LetterRow>, from: u8, turn: u64, posted: LetterList)
     requires { vec_len letters.old + length posted ≤ vec_capacity letters.old }
-    ensures { letters.new.items ≡ letters.old.items ++ letter_rows from turn posted }
+    ensures { letters.new.items ≡ letters.old.items ++ letter_rows (Some from) turn posted }
 {
     for letter in posted.items {
         put_letter(

@@ -25,7 +25,7 @@ ghost use Rattle.replica_core.specs.declared.out.StepOut.{StepOut};
 ghost use Rattle.turn_book.specs.Rows.{HasLawful};
 ghost use Rattle.world_law.specs.Book.{BookState, HasRoom, IsRowOf, MayTickFor, StandsBehind, call_of, standing_behind};
 ghost use Rattle.world_law.specs.Replicas.{IsInputOf, IsRestartOf, IsStopOf, IsTurnOf, StandsAt, StandsStopped};
-ghost use Rattle.world_law.specs.Rows.{HasRows, MayComeNext, seat_of};
+ghost use Rattle.world_law.specs.Rows.{HasRows, MayComeNext};
 ghost use Rattle.world_law.specs.declared.row.BookRow.{BookRow};
 
 /// A book settles what it does not keep: whichever rows stand behind it, the votes and the learned entries in them are the same, and
@@ -59,8 +59,7 @@ pub fn a_legal_book_has_lawful_rows()
 
 /// A turn names the seat of the replica that has it, and an arrival alone names none.
 pub fn a_turn_names_the_seat_of_its_replica()
-    ensures seat { (turn : Turn) (who : ℕ) → seat_of turn ≡ Some who → turn_of turn ≡ who }
-    ensures none { (turn : Turn) → (seat_of turn ≡ None) ↔ ((number : ℕ) × (turn ≡ Arrived number)) }
+    ensures none { (turn : Turn) → (turn_of turn ≡ None) ↔ ((number : ℕ) × (turn ≡ Arrived number)) }
 {}
 
 /// A step that a replica takes beside a legal book is a turn that may come next in it, with what came of the step and the call that it
@@ -76,11 +75,11 @@ pub fn a_step_is_the_next_turn()
 /// A turn leaves the other replicas where they stood in the book, and an arrival leaves all.
 pub fn other_replicas_stand_where_they_did()
     ensures others { (table : Table) (rows : List Row) (row : Row) (book after : BookState) (other : ReplicaState) → after.members ≡ book.members
-        → other.identity.me ≢ turn_of row.turn → StandsAt table rows book other → StandsAt table (rows ++ row ∷ []) after other }
+        → turn_of row.turn ≢ Some other.identity.me → StandsAt table rows book other → StandsAt table (rows ++ row ∷ []) after other }
     ensures arrival { (table : Table) (rows : List Row) (row : Row) (number : ℕ) (book after : BookState) (other : ReplicaState) → after.members ≡ book.members
         → row.turn ≡ Arrived number → StandsAt table rows book other → StandsAt table (rows ++ row ∷ []) after other }
     ensures stopped { (table : Table) (rows : List Row) (row : Row) (book after : BookState) (who : ℕ) (kept : Durable) → after.members ≡ book.members
-        → who ≢ turn_of row.turn → StandsStopped table rows book who kept → StandsStopped table (rows ++ row ∷ []) after who kept }
+        → turn_of row.turn ≢ Some who → StandsStopped table rows book who kept → StandsStopped table (rows ++ row ∷ []) after who kept }
     ensures stopped_arrival { (table : Table) (rows : List Row) (row : Row) (number : ℕ) (book after : BookState) (who : ℕ) (kept : Durable)
         → after.members ≡ book.members
         → row.turn ≡ Arrived number → StandsStopped table rows book who kept → StandsStopped table (rows ++ row ∷ []) after who kept }

@@ -14,12 +14,13 @@ impl Law for Book {
     type Room = StepOut;
 
     ghost use Rattle.std.specs.Prelude.{◌≡◌, ◌≤◌, None, length};
+    ghost use Rattle.history.specs.Book.{turn_of};
     ghost use Rattle.world_law.specs.Book.{HasRoom, call_of};
-    ghost use Rattle.world_law.specs.Rows.{HasRows, MayComeNext, seat_of};
+    ghost use Rattle.world_law.specs.Rows.{HasRows, MayComeNext};
 
     ghost has_rows = { λ table book rows. HasRows table rows book };
 
-    ghost seat = { λ row. seat_of row.turn };
+    ghost seat = { λ row. turn_of row.turn };
 
     ghost number = { λ book. book.members };
 

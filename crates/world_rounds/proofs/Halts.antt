@@ -37,7 +37,7 @@ use Rattle.world_rounds.specs.Alone.{HasJoinedAlone, IsAlone}
 use Rattle.world_rounds.specs.World.{GoesOnBy, IsMemberAhead, IsWorld, IsWorldAt, none_taken}
 use Rattle.world_rounds.specs.declared.member.Member.{Member}
 use Rattle.world_rounds.specs.declared.world.World.{World}
-use Rattle.history.proofs.Standings.{fact_here}
+use Rattle.history.proofs.Standings.{fact_here, is_no_turn_of}
 
 pub has_same : (old new : BookState) → new.letters ≡ old.letters → HasLetters old.letters new
 has_same old new same = λ number letter there. ap (λ letters. slice_get letters number) same ∙ there
@@ -53,6 +53,10 @@ next_alone table rows book during turn change row out alike alone same = record 
   may = rw alike.members alone.may;
 }
 
+none_posted : (from : Option ℕ) (turn : ℕ) → letter_rows from turn [] ≡ []
+none_posted None turn = refl
+none_posted (Some from) turn = refl
+
 pub joined_alone : (table : Table) (rows : List Row) (book during after : BookState) (turn : Turn) (change : Option Delta) (row : Row) (out : StepOut) → IsSameBook during book
     → IsAlone table rows book turn change row → out ≡ change_alone change → Commits turn out.letters during after
     → ((rows : List Row) (row : Row) → StandsBehind table rows during → IsRowOf turn out row
@@ -66,7 +70,8 @@ joined_alone table rows book during after turn change row out alike alone same c
       rest = commits.pending;
       members = commits.members ∙ alike.members;
       letters =
-          commits.posted ∙ ap (λ (o : StepOut). during.letters ++ letter_rows (turn_of turn) (length during.turns) o.letters) same ∙ append_nil during.letters
+          commits.posted ∙ ap (λ (o : StepOut). during.letters ++ letter_rows (turn_of turn) (length during.turns) o.letters) same
+          ∙ ap (λ more. during.letters ++ more) (none_posted (turn_of turn) (length during.turns)) ∙ append_nil during.letters
           ∙ alike.letters;
     }
 
@@ -180,7 +185,7 @@ module _ {D : Type 0} (view : DiskView D) (table : Table) where
             (mine rows situation is can joined))
         | inr other ↦
             member_stays view table rows can.row world.book new.book situation k [] x is.ahead.at joined.members (has_same world.book new.book joined.letters)
-            (leaves_other world.book.members situation can.row k (λ same. other.0 (same ∙ ap turn_of can.alone.is.turn_is))) (is.ahead.each k x other.1)
+            (leaves_other world.book.members situation can.row k (is_no_turn_of can.row.turn who k (ap turn_of can.alone.is.turn_is) other.0)) (is.ahead.each k x other.1)
       ])
       (λ k x found. elim (set_cases world.members.items who next k x (subst (λ members. slice_get members k ≡ Some x) members found)) [
         | inl here ↦ ap (λ (x : Member D). x.steps.items) here.1 ∙ ap (λ steps. steps.items) steps ∙ is.idle who member there

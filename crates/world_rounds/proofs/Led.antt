@@ -12,6 +12,7 @@ use Rattle.history.specs.declared.turn.Cause.{Cause}
 use Rattle.history.specs.declared.turn.Cause.TheVariants.{Tick}
 use Rattle.history.specs.declared.turn.Turn.{Turn}
 use Rattle.history.specs.declared.turn.Turn.TheVariants.{Did, Stopped}
+use Rattle.history.proofs.Standings.{is_no_turn_of}
 use Rattle.script_semantics.specs.Arms.{AreTurnsByArms, IsEnough, IsTurnByArm, TakesStep, is_task_of, tasks_left}
 use Rattle.script_semantics.specs.Round.{answer_tasks, clock_reading, hear_tasks, tasks_of}
 use Rattle.script_semantics.specs.Situation.{AreTurnsFor, Situation, Task, Arrive, Do, Restart, Stop, after_turn, after_turns, armed_after, arms_after, changes_in}
@@ -131,7 +132,7 @@ turns_then n count situation (Stop who ∷ one) two (row ∷ rows) more below of
 turns_then n count situation (Restart who ∷ one) two (row ∷ rows) more below of turns rest = absurd below
 turns_then n count situation (Arrive late ∷ one) two (row ∷ rows) more below of turns rest = absurd below
 
-pub its_turn : (n : ℕ) (situation : Situation) (who : ℕ) (cause : Cause) (row : Row) → IsTurnByArm n situation (Do who cause) row → turn_of row.turn ≡ who
+pub its_turn : (n : ℕ) (situation : Situation) (who : ℕ) (cause : Cause) (row : Row) → IsTurnByArm n situation (Do who cause) row → turn_of row.turn ≡ Some who
 its_turn n situation who cause row (inl takes) = ap turn_of takes.does.is
 its_turn n situation who cause row (inr stops) = ap turn_of stops.is
 
@@ -147,7 +148,8 @@ pub others_leave : (n count who : ℕ) (situation : Situation) (tasks : List Tas
 others_leave n count who situation tasks [] above below turns = record { runs = refl; waits = refl; mail = refl; skew = refl }
 others_leave n count who situation [] (row ∷ rows) above below turns = absurd cc
 others_leave n count who situation (Do other cause ∷ tasks) (row ∷ rows) above below turns =
-    let leaves = leaves_other n situation row who (λ same. let its = its_turn n situation other cause row turns.0 in let less = below.0 in omega (arith, same, its, less, above)) in
+    let leaves = leaves_other n situation row who
+    (is_no_turn_of row.turn other who (its_turn n situation other cause row turns.0) (λ same. let less = below.0 in omega (arith, same, less, above))) in
     let more = others_leave n count who (after_turn n situation row) (tasks_left row.turn tasks) rows above (below_left count row.turn tasks below.1) turns.1 in
     record { runs = more.runs ∙ leaves.runs; waits = more.waits ∙ leaves.waits; mail = more.mail ∙ leaves.mail; skew = more.skew }
 others_leave n count who situation (Stop other ∷ tasks) (row ∷ rows) above below turns = absurd below

@@ -61,7 +61,7 @@ use Rattle.world_rounds.specs.World.{IsMemberAhead, IsWorldAhead, IsWorldAt, non
 use Rattle.world_rounds.specs.declared.member.Member.{Member}
 use Rattle.world_rounds.specs.declared.world.World.{World}
 use Rattle.due_set.proofs.Rising.{Contains-head as in_first, Contains-tail as in_rest}
-use Rattle.history.proofs.Standings.{fact_here, fact_there}
+use Rattle.history.proofs.Standings.{fact_here, fact_there, is_no_turn_of}
 use Rattle.std.proofs.lemmas.Bool.{cases_eq}
 
 -- ---- what is known when a replica takes a step
@@ -381,7 +381,7 @@ module _ {D : Type 0} (view : DiskView D) (table : Table) where
       | inr other ↦
           member_stays view table rows row before.book new.book situation k [] x may.is.ahead.at n_is
           (has_same before.book new.book (joined.letters ∙ ap (λ (b : BookState). b.letters) may.book))
-          (leaves_other before.book.members situation row k (λ same. other.0 (same ∙ ap turn_of turn)))
+          (leaves_other before.book.members situation row k (is_no_turn_of row.turn who k (ap turn_of turn) other.0))
           (elim (set_cases before.members.items who may.new k x (subst (λ members. slice_get members k ≡ Some x) may.members other.1)) [
             | inl here ↦ absurd (other.0 here.0)
             | inr there ↦ may.is.ahead.each k x there.1

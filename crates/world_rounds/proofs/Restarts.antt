@@ -34,7 +34,7 @@ use Rattle.replica_store.specs.Store.{area_of}
 use Rattle.world_steps.proofs.Bases.{bases_same}
 use Rattle.history.specs.declared.turn.Turn.{Turn}
 use Rattle.world_rounds.specs.declared.world.World.{World}
-use Rattle.history.proofs.Standings.{fact_here}
+use Rattle.history.proofs.Standings.{fact_here, is_no_turn_of}
 
 -- an element that is taken out, and another put into its place
 pub put_back : {X : Type 0} (xs : List X) (i : ℕ) (y : X) → i < length xs → insert (remove xs i) i y ≡ set xs i y
@@ -122,7 +122,7 @@ module _ {D : Type 0} (view : DiskView D) (table : Table) where
             (mine rows situation is can joined))
         | inr other ↦
             member_stays view table rows can.row world.book new.book situation k [] x is.ahead.at joined.members (has_same world.book new.book joined.letters)
-            (leaves_other world.book.members situation can.row k (λ same. other.0 (same ∙ ap turn_of can.alone.is.turn_is))) (is.ahead.each k x other.1)
+            (leaves_other world.book.members situation can.row k (is_no_turn_of can.row.turn who k (ap turn_of can.alone.is.turn_is) other.0)) (is.ahead.each k x other.1)
       ])
       (λ k x found. elim (set_cases world.members.items who next k x (subst (λ members. slice_get members k ≡ Some x) members found)) [
         | inl here ↦ ap (λ (x : Member D). x.steps.items) here.1 ∙ ap (λ steps. steps.items) again.steps ∙ is.idle who member there

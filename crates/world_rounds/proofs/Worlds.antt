@@ -26,7 +26,7 @@ use Rattle.world_rounds.specs.Taking.{HasTakenTurns, tasks_by}
 use Rattle.world_rounds.specs.World.{IsMemberAhead, IsWorldAhead}
 use Rattle.world_rounds.specs.declared.member.Member.{Member}
 use Rattle.world_rounds.specs.declared.world.World.{World}
-use Rattle.history.proofs.Standings.{fact_here, fact_there}
+use Rattle.history.proofs.Standings.{fact_here, fact_there, is_no_turn_of}
 
 -- what is found in a list with another element at one place
 pub set_cases : {X : Type 0} (xs : List X) (i : ℕ) (y : X) (k : ℕ) (x : X) → slice_get (set xs i y) k ≡ Some x → ((k ≡ i) × (x ≡ y)) ⊎ ((k ≢ i) × (slice_get xs k ≡ Some x))
@@ -117,7 +117,7 @@ module _ {D : Type 0} (view : DiskView D) (table : Table) where
           subst (λ steps. IsMemberAhead view table (rows ++ joined.row ∷ []) after.book (after_turn world.book.members situation joined.row) k steps x)
           (sym (fact_there who more ahead_by k differs))
           (member_stays view table rows joined.row world.book after.book situation k (ahead_by k) x ahead.at joined.joined.members joined.joined.has
-          (leaves_other world.book.members situation joined.row k (λ same. differs (same ∙ ap turn_of joined.joined.turn))) (ahead.each k x found))
+          (leaves_other world.book.members situation joined.row k (is_no_turn_of joined.row.turn who k (ap turn_of joined.joined.turn) differs)) (ahead.each k x found))
 
       each : (k : ℕ) (x : Member D) → slice_get after.members.items k ≡ Some x
           → IsMemberAhead view table (rows ++ joined.row ∷ []) after.book (after_turn world.book.members situation joined.row) k (with_fact who more ahead_by k) x

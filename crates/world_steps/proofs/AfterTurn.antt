@@ -1,6 +1,5 @@
 -- What a turn leaves of replicas, of their mails and of steps beside the book that are no turns yet.
 use Rattle.std.proofs.Common.{◌≡◌, ◌≢◌, ℕ, ◌≤◌, Bool, true, List, [], ◌∷◌, ◌++◌, drop, Option, None, Some, refl, sym, ap, ◌∙◌, subst, append_assoc}
-use Rattle.std.proofs.lemmas.Bool.{ne_eqb}
 use Rattle.std.specs.Option.{option_to_list}
 use Rattle.disk_model.specs.View.{DiskView}
 use Rattle.cluster_sched.specs.declared.fate.Fate.{Fate}
@@ -8,11 +7,10 @@ use Rattle.cluster_sched.specs.declared.row.SchedRow.{SchedRow}
 use Rattle.due_set.specs.Table.{Table}
 use Rattle.launch_machine.specs.Clerk.{first_rows}
 use Rattle.paxos_base.specs.declared.durable.Delta.{Delta}
-use Rattle.step_spec.specs.State.{Identity, State}
+use Rattle.step_spec.specs.State.{Identity}
 use Rattle.step_spec.specs.Step.{Event}
 use Rattle.step_spec.specs.declared.out.OutLetter.{OutLetter}
-use Rattle.agreement.specs.World.{with_replica}
-use Rattle.history.specs.Book.{Row, Standing, after_row, answer_to, standing_after, turn_of, with_fact}
+use Rattle.history.specs.Book.{Row, Standing, after_row, answer_to, standing_after, turn_of}
 use Rattle.history.specs.declared.turn.CallRow.{CallRow}
 use Rattle.history.specs.declared.turn.Cause.{Cause}
 use Rattle.history.specs.declared.turn.Cause.TheVariants.{Campaign, Tick, Hear, Answer}
@@ -27,14 +25,13 @@ use Rattle.script_semantics.specs.Situation.{Armed, Situation, after_turn, armed
 use Rattle.world_law.specs.Book.{BookState, StandsBehind, standing_behind}
 use Rattle.world_law.specs.declared.letter.LetterRow.{LetterRow}
 use Rattle.world_steps.specs.Nodes.{IsDiskAt, bases_behind}
-use Rattle.world_steps.specs.Parts.{IsBookAt, IsMailOf, IsSentTo, armed_in}
+use Rattle.world_steps.specs.Parts.{IsBookAt, IsMailOf, IsSentTo}
 use Rattle.world_steps.specs.declared.mail.MemberMail.{MemberMail}
 use Rattle.world_steps.proofs.Bases.{arm_spent, bases_here, bases_more, others_armed, others_keep}
 use Rattle.world_steps.specs.Steps.{IsNodeAhead, IsNodeStopped, IsToldOf, TookSteps, causes_of, changes_of, heard_for, letters_heard_in, waits_in}
-use Rattle.world_steps.specs.Turns.{HasJoinedAt, HasLetters, IsNextStep, arm_then, fate_then, noted}
+use Rattle.world_steps.specs.Turns.{HasJoinedAt, HasLetters, IsNextStep, fate_then, noted}
 use Rattle.world_steps.specs.declared.steps.Taken.{Taken}
-use Rattle.history.proofs.FrontLemmas.{replica_there}
-use Rattle.history.proofs.Standings.{fact_here, fact_there, waits_others}
+use Rattle.history.proofs.Standings.{fact_here, fact_there, is_another, waits_others}
 use Rattle.world_law.proofs.Others.{others_run, others_stay}
 
 -- ---- the others
@@ -49,23 +46,23 @@ pub record Leaves (n : ℕ) (situation : Situation) (row : Row) (other : ℕ) : 
   pub arm : (after_turn n situation row).arms other ≡ situation.arms other
   pub base : (after_turn n situation row).bases other ≡ situation.bases other
 
-others_mail : (turn : Turn) (mails : ℕ → List ℕ) (other : ℕ) → other ≢ turn_of turn → mails_after turn mails other ≡ mails other
+others_mail : (turn : Turn) (mails : ℕ → List ℕ) (other : ℕ) → turn_of turn ≢ Some other → mails_after turn mails other ≡ mails other
 others_mail (Did who Campaign made) mails other differs = refl
 others_mail (Did who (Tick now) made) mails other differs = refl
-others_mail (Did who (Hear number) made) mails other differs = fact_there who _ mails other differs
+others_mail (Did who (Hear number) made) mails other differs = fact_there who _ mails other (is_another who other differs)
 others_mail (Did who Answer made) mails other differs = refl
-others_mail (Stopped who cause kept) mails other differs = fact_there who _ mails other differs
+others_mail (Stopped who cause kept) mails other differs = fact_there who _ mails other (is_another who other differs)
 others_mail (Restarted who) mails other differs = refl
 others_mail (Arrived number) mails other differs = refl
 
-others_fate : (turn : Turn) (fates : ℕ → Fate) (other : ℕ) → other ≢ turn_of turn → fates_after turn fates other ≡ fates other
+others_fate : (turn : Turn) (fates : ℕ → Fate) (other : ℕ) → turn_of turn ≢ Some other → fates_after turn fates other ≡ fates other
 others_fate (Did who cause None) fates other differs = refl
-others_fate (Did who cause (Some made)) fates other differs = fact_there who _ fates other differs
+others_fate (Did who cause (Some made)) fates other differs = fact_there who _ fates other (is_another who other differs)
 others_fate (Stopped who cause kept) fates other differs = refl
 others_fate (Restarted who) fates other differs = refl
 others_fate (Arrived number) fates other differs = refl
 
-pub leaves_other : (n : ℕ) (situation : Situation) (row : Row) (other : ℕ) → other ≢ turn_of row.turn → Leaves n situation row other
+pub leaves_other : (n : ℕ) (situation : Situation) (row : Row) (other : ℕ) → turn_of row.turn ≢ Some other → Leaves n situation row other
 leaves_other n situation row other differs = record {
   replica = others_stay n situation.standing row.turn row.event row.letters other differs;
   runs = others_run n situation.standing row.turn row.event row.letters other differs;

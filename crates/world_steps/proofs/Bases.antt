@@ -10,8 +10,7 @@ use Rattle.save_calls.specs.Save.{bases_after}
 use Rattle.step_spec.specs.Folds.{deltas_of}
 use Rattle.step_spec.specs.State.{Identity, State}
 use Rattle.step_spec.specs.Step.{Event, step}
-use Rattle.agreement.specs.Transition.{identity_of}
-use Rattle.history.specs.Book.{Row, Standing, acts_at, after_row, standing_after, turn_of, with_fact}
+use Rattle.history.specs.Book.{Row, Standing, acts_at, after_row, standing_after, turn_of}
 use Rattle.history.specs.Legal.{MayFollow, TakesTurn}
 use Rattle.history.specs.declared.turn.CallRow.{CallRow}
 use Rattle.history.specs.declared.turn.Cause.{Cause}
@@ -26,12 +25,12 @@ use Rattle.world_law.specs.Replicas.{IsInputOf, StandsAt}
 use Rattle.world_steps.specs.Nodes.{bases_behind}
 use Rattle.world_steps.specs.Parts.{IsBookAt, armed_in}
 use Rattle.world_steps.proofs.Foreseen.{is_input}
-use Rattle.world_steps.specs.Steps.{TookStep, waits_in}
+use Rattle.world_steps.specs.Steps.{waits_in}
 use Rattle.world_steps.specs.Stops.{IsNextStop}
 use Rattle.world_steps.specs.Turns.{HasJoined, IsNextStep, arm_then}
 use Rattle.world_steps.specs.declared.steps.Taken.{Taken}
 use Rattle.history.proofs.FrontLemmas.{follows_there as may_next}
-use Rattle.history.proofs.Standings.{fact_here, fact_there}
+use Rattle.history.proofs.Standings.{fact_here, fact_there, is_another}
 
 -- ---- bases behind rows
 
@@ -57,15 +56,15 @@ bases_then table rows row book after situation at members =
     ∙ ap (bases_kept row.turn (changes_in book.members (standing_behind table rows book) row.turn row.event)) at.bases
     ∙ sym (bases_row table rows row book after members)
 
-pub others_keep : (turn : Turn) (changes : List Delta) (bases : ℕ → ℕ) (other : ℕ) → other ≢ turn_of turn → bases_kept turn changes bases other ≡ bases other
-others_keep (Did who cause made) changes bases other differs = fact_there who _ bases other differs
-others_keep (Stopped who cause true) changes bases other differs = fact_there who _ bases other differs
+pub others_keep : (turn : Turn) (changes : List Delta) (bases : ℕ → ℕ) (other : ℕ) → turn_of turn ≢ Some other → bases_kept turn changes bases other ≡ bases other
+others_keep (Did who cause made) changes bases other differs = fact_there who _ bases other (is_another who other differs)
+others_keep (Stopped who cause true) changes bases other differs = fact_there who _ bases other (is_another who other differs)
 others_keep (Stopped who cause false) changes bases other differs = refl
 others_keep (Restarted who) changes bases other differs = refl
 others_keep (Arrived number) changes bases other differs = refl
 
 -- another's are as many as they were
-pub bases_there : (table : Table) (rows : List Row) (row : Row) (book after : BookState) (other : ℕ) → after.members ≡ book.members → other ≢ turn_of row.turn
+pub bases_there : (table : Table) (rows : List Row) (row : Row) (book after : BookState) (other : ℕ) → after.members ≡ book.members → turn_of row.turn ≢ Some other
     → bases_behind table (rows ++ row ∷ []) after other ≡ bases_behind table rows book other
 bases_there table rows row book after other members differs =
     ap (λ (bases : ℕ → ℕ). bases other) (bases_row table rows row book after members)
@@ -83,9 +82,9 @@ bases_more one two bases = fold-append (λ (count : ℕ) (change : Delta). bases
 
 -- ---- arms
 
-pub others_armed : (turn : Turn) (changes : List Delta) (arms : ℕ → Option Armed) (other : ℕ) → other ≢ turn_of turn → arms_after turn changes arms other ≡ arms other
-others_armed (Did who cause made) changes arms other differs = fact_there who _ arms other differs
-others_armed (Stopped who cause kept) changes arms other differs = fact_there who _ arms other differs
+pub others_armed : (turn : Turn) (changes : List Delta) (arms : ℕ → Option Armed) (other : ℕ) → turn_of turn ≢ Some other → arms_after turn changes arms other ≡ arms other
+others_armed (Did who cause made) changes arms other differs = fact_there who _ arms other (is_another who other differs)
+others_armed (Stopped who cause kept) changes arms other differs = fact_there who _ arms other (is_another who other differs)
 others_armed (Restarted who) changes arms other differs = refl
 others_armed (Arrived number) changes arms other differs = refl
 

@@ -1,14 +1,12 @@
 -- A replica whose turn it isn't is as it was.
 use Rattle.std.proofs.Common.{◌≡◌, ◌≢◌, ℕ, List, [], ◌∷◌, ◌++◌, Option, Some, None, refl, ap, ◌∙◌, sym, subst}
-use Rattle.std.proofs.lemmas.Bool.{ne_eqb}
 use Rattle.due_set.specs.Table.{Table}
 use Rattle.launch_machine.specs.Clerk.{first_rows}
 use Rattle.paxos_base.specs.declared.durable.Durable.{Durable}
 use Rattle.step_spec.specs.State.{State}
 use Rattle.step_spec.specs.Step.{Event}
 use Rattle.step_spec.specs.declared.out.OutLetter.{OutLetter}
-use Rattle.agreement.specs.World.{with_replica}
-use Rattle.history.specs.Book.{Row, Standing, after_row, standing_after, turn_of, with_fact}
+use Rattle.history.specs.Book.{Row, Standing, after_row, standing_after, turn_of}
 use Rattle.history.specs.declared.turn.Turn.{Turn}
 use Rattle.history.specs.declared.turn.Turn.TheVariants.{Did, Stopped, Restarted, Arrived}
 use Rattle.history.proofs.Keeping.{stands_next}
@@ -16,7 +14,7 @@ use Rattle.replica_core.specs.Replica.{ReplicaState}
 use Rattle.world_law.specs.Book.{BookState, standing_behind}
 use Rattle.world_tests.specs.Seat.{IsWhereLeft, IsSeated, SeatState}
 use Rattle.history.proofs.FrontLemmas.{replica_there}
-use Rattle.history.proofs.Standings.{fact_there}
+use Rattle.history.proofs.Standings.{fact_there, is_another}
 
 -- what stands after one row more
 pub next_stands : (table : Table) (rows : List Row) (row : Row) (book after : BookState) → after.members ≡ book.members
@@ -30,20 +28,20 @@ record IsUnmoved (before after : Standing) (who : ℕ) : Type 0 where
   pub runs : after.runs who ≡ before.runs who
   pub waits : after.waits who ≡ before.waits who
 
-others_unmoved : (n : ℕ) (s : Standing) (turn : Turn) (event : Event) (letters : List OutLetter) (other : ℕ) → other ≢ turn_of turn
+others_unmoved : (n : ℕ) (s : Standing) (turn : Turn) (event : Event) (letters : List OutLetter) (other : ℕ) → turn_of turn ≢ Some other
     → IsUnmoved s (after_row n s turn event letters) other
 unfolding after_row
 others_unmoved n s (Did who cause made) event letters other differs = record {
-  replicas = replica_there who _ s.replicas other differs;
+  replicas = replica_there who _ s.replicas other (is_another who other differs);
   runs = refl;
-  waits = fact_there who _ s.waits other differs;
+  waits = fact_there who _ s.waits other (is_another who other differs);
 }
 others_unmoved n s (Stopped who cause kept) event letters other differs = record {
-  replicas = replica_there who _ s.replicas other differs;
-  runs = fact_there who _ s.runs other differs;
-  waits = fact_there who _ s.waits other differs;
+  replicas = replica_there who _ s.replicas other (is_another who other differs);
+  runs = fact_there who _ s.runs other (is_another who other differs);
+  waits = fact_there who _ s.waits other (is_another who other differs);
 }
-others_unmoved n s (Restarted who) event letters other differs = record { replicas = refl; runs = fact_there who _ s.runs other differs; waits = refl }
+others_unmoved n s (Restarted who) event letters other differs = record { replicas = refl; runs = fact_there who _ s.runs other (is_another who other differs); waits = refl }
 others_unmoved n s (Arrived number) event letters other differs = record { replicas = refl; runs = refl; waits = refl }
 
 arrival_unmoved : (n : ℕ) (s : Standing) (turn : Turn) (number : ℕ) (event : Event) (letters : List OutLetter) (other : ℕ) → turn ≡ Arrived number
@@ -78,7 +76,7 @@ seated_on table rows later book after who seat members unmoved seated = record {
     go durable None left = record { runs = unmoved.runs ∙ left.runs; state = unmoved.replicas ∙ left.state }
 
 pub others_seated : (table : Table) (rows : List Row) (row : Row) (book after : BookState) (who : ℕ) (seat : SeatState) → after.members ≡ book.members
-    → who ≢ turn_of row.turn → IsSeated table rows book who seat → IsSeated table (rows ++ row ∷ []) after who seat
+    → turn_of row.turn ≢ Some who → IsSeated table rows book who seat → IsSeated table (rows ++ row ∷ []) after who seat
 others_seated table rows row book after who seat members differs =
     seated_on table rows (rows ++ row ∷ []) book after who seat members
     (subst (λ s. IsUnmoved (standing_behind table rows book) s who) (sym (next_stands table rows row book after members))

@@ -7,6 +7,7 @@ use Rattle.due_set.specs.Table.{Table}
 use Rattle.launch_machine.proofs.MachineLemmas.{push_before, push_last}
 use Rattle.step_spec.specs.State.{Identity, started}
 use Rattle.world_law.specs.Book.{BookState, StandsBehind}
+use Rattle.history.proofs.Standings.{is_no_turn_of}
 use Rattle.world_tests.specs.Scene.{AreNew, HasArrived, IsLegalScene}
 use Rattle.world_tests.specs.Seat.{GoesOnByTurn, IsWhereLeft, IsNew, IsSeated, SeatState}
 use Rattle.world_tests.proofs.Left.{all_seated, others_seated}
@@ -24,7 +25,7 @@ scene_goes_on table book after seats new who seat scene goes here there = record
             subst (λ other. IsSeated table (scene.rows ++ goes.row ∷ []) after other found) (sym same)
             (subst (IsSeated table (scene.rows ++ goes.row ∷ []) after who) (sym (here found (subst (λ other. slice_get new other ≡ Some found) same is))) goes.seated)
         | inr differs ↦
-            others_seated table scene.rows goes.row book after other found goes.members (λ same. differs (same ∙ goes.whose))
+            others_seated table scene.rows goes.row book after other found goes.members (is_no_turn_of goes.row.turn who other goes.whose differs)
             (scene.seated other found (sym (there other differs) ∙ is))
       ];
 }

@@ -96,7 +96,7 @@ pub record HasTakenStep (table : Table) (book : BookState) (who : ℕ) (cause : 
 -- one row more stands behind the book, that of a turn of this replica, which is as the rows leave it from then on
 pub record GoesOnByTurn (table : Table) (rows : List Row) (old new : BookState) (who : ℕ) (seat : SeatState) : Type 0 where
   pub row : Row
-  pub whose : turn_of row.turn ≡ who
+  pub whose : turn_of row.turn ≡ Some who
   pub rests : IsBookAtRest table (rows ++ row ∷ []) new
   pub members : new.members ≡ old.members
   pub seated : IsSeated table (rows ++ row ∷ []) new who seat

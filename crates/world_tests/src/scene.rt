@@ -58,7 +58,7 @@ fn play_turn(
     match turn {
         Turn::Did { who, .. } | Turn::Stopped { who, .. } | Turn::Restarted { who } => {
             match scene.seats.get_mut(who as usize) {
-                Some(seat) => take_turn(rt, alloc, table, &mut scene.book, seat, turn),
+                Some(seat) => take_turn(rt, alloc, table, &mut scene.book, seat, who, turn),
                 None => Err("no such replica")?,
             }
         }

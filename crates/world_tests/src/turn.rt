@@ -3,7 +3,7 @@ ghost use Rattle.std.specs.Prelude.{◌≡◌, ℕ, List, [], ◌∷◌, None, S
 ghost use Rattle.std.specs.Option.{option_to_list};
 ghost use Rattle.zone_minutes.specs.declared.minute.Minute.{Minute};
 ghost use Rattle.history.specs.declared.turn.Cause.TheVariants as told;
-ghost use Rattle.history.specs.Book.{Row, Standing, answer_to, late_call, turn_of};
+ghost use Rattle.history.specs.Book.{Row, Standing, answer_to, late_call};
 ghost use Rattle.history.specs.Legal.{IsMade};
 ghost use Rattle.replica_core.specs.Step.{IsInputInside};
 ghost use Rattle.world_law.specs.Book.{HasRoom, MayTickFor, StandsBehind, standing_behind};
@@ -249,7 +249,7 @@ fn fate_of(call: Option<CallRow>) -> Fate {
     call.map_or(Fate::Done, |made| made.fate)
 }
 
-/// A replica takes its turn; where it stops, it does so between two steps. Of a call the fate alone is taken from the turn: its row
+/// The replica takes its turn; where it stops, it does so between two steps. Of a call the fate alone is taken from the turn: its row
 /// and its answer come of the step.
 pub fn take_turn(
     rt: &impl Abort,
@@ -257,16 +257,17 @@ pub fn take_turn(
     table: &JobTable,
     book: &mut Book,
     seat: &mut Seat,
+    who: u8,
     turn: Turn,
 ) -> Result<(), Fail>
-    requires { IsInBook table.now book.old (turn_of turn) seat.old }
-    ensures { OnOk result ((rows : List Row) → IsBookAtRest table.now rows book.old → IsSeated table.now rows book.old (turn_of turn) seat.old
-        → GoesOnByTurn table.now rows book.old book.new (turn_of turn) seat.new) }
+    requires { IsInBook table.now book.old who seat.old }
+    ensures { OnOk result ((rows : List Row) → IsBookAtRest table.now rows book.old → IsSeated table.now rows book.old who seat.old
+        → GoesOnByTurn table.now rows book.old book.new who seat.new) }
 {
     match turn {
-        Turn::Did { who, cause, call } => step(rt, table, book, seat, who, cause, fate_of(call)),
-        Turn::Stopped { who, .. } => stop(rt, alloc, table, book, seat, who),
-        Turn::Restarted { who } => restart(rt, alloc, table, book, seat, who),
+        Turn::Did { cause, call, .. } => step(rt, table, book, seat, who, cause, fate_of(call)),
+        Turn::Stopped { .. } => stop(rt, alloc, table, book, seat, who),
+        Turn::Restarted { .. } => restart(rt, alloc, table, book, seat, who),
         Turn::Arrived { .. } => Err("an arrival is nobody's turn")?,
     }
 }

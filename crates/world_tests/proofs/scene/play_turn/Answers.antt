@@ -3,8 +3,6 @@ use Rattle.std.specs.List.{slice_set}
 use Rattle.std.proofs.lemmas.Option.{slice_get_read}
 use Rattle.std.proofs.lemmas.Result.{on_ok_weaker}
 use Rattle.launch_machine.proofs.MachineLemmas.{set_here, set_there}
-use Rattle.history.specs.Book.{turn_of}
-use Rattle.world_tests.specs.Seat.{GoesOnByTurn, IsSeated}
 use Rattle.world_tests.proofs.Scenes.{scene_arrives, scene_goes_on}
 use Rattle.world_tests.proofs.scene.play_turn.Goals as goal
 
@@ -18,7 +16,6 @@ returns-in-Arrived g c =
 
 pub returns-in-Some : goal.returns-in-Some
 returns-in-Some g c =
-    let whose : turn_of c.in-Did.turn ≡ c.in-Did.who = search rules in
     let within : c.in-Did.who < length c.args.scene.now.seats.items = search rules in
     let item : c.in-Some.seat.now ≡ get_or c.args.scene.now.seats.items c.in-Did.who c.in-Some.seat.now =
     subst (λ r. IfSome r (λ x. x.now ≡ get_or c.args.scene.now.seats.items c.in-Did.who x.now)) c.in-Some.is c.get_mut.ensures.item.1 in
@@ -27,10 +24,7 @@ returns-in-Some g c =
     (λ goes.
     scene_goes_on c.args.table.now c.args.scene.now.book c.take_turn.new.book c.args.scene.now.seats.items
     (slice_set c.args.scene.now.seats.items c.in-Did.who c.take_turn.new.seat) c.in-Did.who c.take_turn.new.seat c.requires
-    (subst (λ who. GoesOnByTurn c.args.table.now c.requires.rows c.args.scene.now.book c.take_turn.new.book who c.take_turn.new.seat) whose
-    (goes c.requires.rows c.requires.rests
-    (subst (λ who. IsSeated c.args.table.now c.requires.rows c.args.scene.now.book who c.in-Some.seat.now) (sym whose)
-    (c.requires.seated c.in-Did.who c.in-Some.seat.now there))))
+    (goes c.requires.rows c.requires.rests (c.requires.seated c.in-Did.who c.in-Some.seat.now there))
     (λ found is. sym (set_here c.args.scene.now.seats.items c.in-Did.who found c.take_turn.new.seat is))
     (λ other differs. set_there c.args.scene.now.seats.items c.in-Did.who other c.take_turn.new.seat differs))
     c.take_turn.ensures
