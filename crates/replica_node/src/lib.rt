@@ -17,6 +17,7 @@ mod fault;
 mod laws;
 mod node;
 mod reopen;
+mod start;
 
 pub use fault::NodeFault;
 pub use laws::{

@@ -10,7 +10,7 @@ use Rattle.disk_model.specs.Images.{file_of}
 use Rattle.gate_file.proofs.GateLemmas.{some_list}
 use Rattle.replica_store.specs.Files.{selected}
 use Rattle.replica_store.specs.Made.{attach_calls, look_calls}
-use Rattle.replica_node.proofs.node.start.Goals as goal
+use Rattle.replica_node.proofs.start.start.Goals as goal
 
 -- ---- the store is not attached
 
