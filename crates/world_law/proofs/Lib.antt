@@ -17,6 +17,7 @@ pub mod Behind
 pub mod Called
 pub mod Lawful
 pub mod Ledgers
+pub mod Longest
 pub mod Others
 pub mod Rows
 pub mod Settled

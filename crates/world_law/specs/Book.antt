@@ -1,5 +1,5 @@
 -- A book as a program keeps it, and the rows that stand behind it.
-use Rattle.std.specs.Prelude.{◌≡◌, ℕ, ◌<◌, ◌≤◌, List, [], ◌∷◌, ◌++◌, length, map, Option, None, Some}
+use Rattle.std.specs.Prelude.{◌≡◌, ℕ, ◌<◌, ◌≤◌, List, [], ◌∷◌, ◌++◌, length, map, max, Option, None, Some}
 use Rattle.std.specs.List.{enumerate_from, flat_map}
 use Rattle.std.specs.Option.{option_to_list}
 use Rattle.zone_minutes.specs.declared.minute.Minute.{Minute}
@@ -42,6 +42,11 @@ pub record BookState : Type 0 where
 abbrev pub letter_rows : (from : Option ℕ) → (turn : ℕ) → List OutLetter → List LetterRow
 letter_rows None turn letters = []
 letter_rows (Some from) turn letters = map (λ (letter : OutLetter). record { from = from; to = letter.to; turn = turn; bytes = letter.bytes }) letters
+
+-- how many bytes the longest letter has, or 0
+abbrev pub longest_of : List LetterRow → ℕ
+longest_of [] = 0
+longest_of (letter ∷ letters) = max (length letter.bytes) (longest_of letters)
 
 -- a letter of a book, but for the turn that posted it
 abbrev pub posted_as : LetterRow → PostedLetter

@@ -1,11 +1,11 @@
 //! The book that a program keeps while replicas run.
-ghost use Rattle.std.specs.Prelude.{◌≡◌, ◌+◌, ◌<◌, ◌≤◌, ◌++◌, ◌∷◌, [], ℕ, List, None, Some, length, IfOk, OnOk, OnErr, vec_len, vec_capacity};
+ghost use Rattle.std.specs.Prelude.{◌≡◌, ◌+◌, ◌<◌, ◌≤◌, ◌++◌, ◌∷◌, [], ℕ, List, None, Some, length, max, IfOk, OnOk, OnErr, vec_len, vec_capacity};
 ghost use Rattle.cluster_sched.specs.Fates.{IsUnchanged};
 ghost use Rattle.cluster_sched.specs.declared.fate.Fate.TheVariants.{Done};
 ghost use Rattle.due_set.specs.Table.{Table};
 ghost use Rattle.history.specs.Book.{Row, arriving, late_call};
 ghost use Rattle.history.specs.Legal.{IsMade, MayFollow};
-ghost use Rattle.world_law.specs.Book.{Commits, HasCalled, HasRoom, IsSameBook, IsLegalBook, IsNext, IsRowOf, MakesCall, MayTickFor, StandsBehind, call_of, letter_rows, standing_behind};
+ghost use Rattle.world_law.specs.Book.{Commits, HasCalled, HasRoom, IsSameBook, IsLegalBook, IsNext, IsRowOf, MakesCall, MayTickFor, StandsBehind, call_of, letter_rows, longest_of, standing_behind};
 
 use crate::letter::LetterRow;
 use cluster_sched::{CallFault, Fate, Ledger, SchedRow, call_by_name};
@@ -23,6 +23,8 @@ pub struct Book {
     members: u8,
     turns: Vec<Turn>,
     letters: Vec<LetterRow>,
+    // The bytes of the longest letter, kept so that nobody has to go over all letters for them.
+    longest: usize,
     ledger: Ledger,
     // The numbers of the late calls that have arrived.
     arrived: Vec<u32>,
@@ -33,7 +35,7 @@ pub struct Book {
 impl Model for Book {
     ghost use Rattle.std.specs.Prelude.{◌≡◌, ◌-◌, vec_len, vec_capacity};
     ghost use Rattle.cluster_sched.specs.declared.fate.Fate.TheVariants.{Done};
-    ghost use Rattle.world_law.specs.Book.{BookState};
+    ghost use Rattle.world_law.specs.Book.{BookState, longest_of};
 
     ghost Value = { BookState };
 
@@ -51,7 +53,7 @@ impl Model for Book {
       };
     } };
 
-    ghost invariant = { λ book. book.ledger.fate ≡ Done };
+    ghost invariant = { λ book. (book.ledger.fate ≡ Done) × (book.longest ≡ longest_of book.letters.items) };
 }
 
 impl Book {
@@ -65,6 +67,7 @@ impl Book {
             members,
             turns: Vec::new(alloc),
             letters: Vec::new(alloc),
+            longest: 0,
             ledger: Ledger::new(alloc),
             arrived: Vec::new(alloc),
             pending: None,
@@ -83,6 +86,13 @@ impl Book {
         ensures { result.now ≡ self.now.letters }
     {
         self.letters.as_slice()
+    }
+
+    /// How many bytes the longest letter has; none where there is no letter.
+    pub fn longest(&self) -> usize
+        ensures { result ≡ longest_of self.now.letters }
+    {
+        self.longest
     }
 
     /// The scheduler.
@@ -168,7 +178,13 @@ impl Book {
         let number = self.turns.len() as u64;
         match turn {
             Turn::Did { who, .. } | Turn::Stopped { who, .. } | Turn::Restarted { who } => {
-                post(&mut self.letters, who, number, out.letters);
+                post(
+                    &mut self.letters,
+                    &mut self.longest,
+                    who,
+                    number,
+                    out.letters,
+                );
             }
             Turn::Arrived { late } => {
                 arrive(&mut self.ledger, late);
@@ -242,13 +258,15 @@ fn call_ledger(ledger: &mut Ledger, row: SchedRow, fate: Fate) -> Result<CallRow
     }
 }
 
-// Adds a letter, for which there is room.
-fn put_letter(letters: &mut Vec<LetterRow>, letter: LetterRow)
+// Adds a letter, for which there is room; from then on the longest is known with it.
+fn put_letter(letters: &mut Vec<LetterRow>, longest: &mut usize, letter: LetterRow)
     requires { vec_len letters.old < vec_capacity letters.old }
     ensures items { letters.new.items ≡ letters.old.items ++ letter ∷ [] }
     ensures len { vec_len letters.new ≡ vec_len letters.old + 1 }
     ensures capacity { vec_capacity letters.old ≤ vec_capacity letters.new }
+    ensures most { longest.new ≡ max longest.old (length letter.bytes) }
 {
+    *longest = (*longest).max(letter.bytes.bytes().len());
     match letters.push(letter) {
         Ok(()) => {}
         Err(_) => unreachable!(),
@@ -256,13 +274,16 @@ fn put_letter(letters: &mut Vec<LetterRow>, letter: LetterRow)
 }
 
 // Adds the letters of a step, for which there is room.
-fn post(letters: &mut Vec<LetterRow>, from: u8, turn: u64, posted: LetterList)
-    requires { vec_len letters.old + length posted ≤ vec_capacity letters.old }
-    ensures { letters.new.items ≡ letters.old.items ++ letter_rows (Some from) turn posted }
+fn post(letters: &mut Vec<LetterRow>, longest: &mut usize, from: u8, turn: u64, posted: LetterList)
+    requires room { vec_len letters.old + length posted ≤ vec_capacity letters.old }
+    requires most { longest.old ≡ longest_of letters.old.items }
+    ensures items { letters.new.items ≡ letters.old.items ++ letter_rows (Some from) turn posted }
+    ensures most { longest.new ≡ longest_of letters.new.items }
 {
     for letter in posted.items {
         put_letter(
             letters,
+            longest,
             LetterRow {
                 from,
                 to: letter.to,

@@ -1,21 +1,19 @@
 -- Worlds that drain until one leads, until it rests, and until all have caught up.
-use Rattle.std.proofs.Common.{◌≡◌, ℕ, suc, ◌+◌, ◌*◌, ◌^◌, ◌<◌, ◌≤◌, true, false, List, [], ◌∷◌, ◌++◌, length, drop, map, ℤ, Some, refl, sym, ap, ◌∙◌, subst, inl, inr, arith, append_assoc, add-one, append-nil as append_nil}
+use Rattle.std.proofs.Common.{◌≡◌, ℕ, suc, ◌+◌, ◌<◌, ◌≤◌, true, false, List, [], ◌∷◌, ◌++◌, length, ℤ, Some, refl, sym, ap, ◌∙◌, subst, inl, inr, arith, append_assoc, add-one}
 use Rattle.std.specs.List.{slice_get}
 use Rattle.std.proofs.lemmas.Bool.{cases_lt}
-use Rattle.std.proofs.lemmas.List.{length-append, length-map}
 use Rattle.disk_model.specs.View.{DiskView}
 use Rattle.zone_minutes.specs.Window.{IsInWindow}
 use Rattle.due_set.specs.Table.{Table}
 use Rattle.step_spec.specs.Step.{IsLaunchTable}
 use Rattle.replica_node.specs.Node.{replica_of}
-use Rattle.history.specs.Book.{PostedLetter, Row}
+use Rattle.history.specs.Book.{Row}
 use Rattle.history.specs.Legal.{IsLegal}
 use Rattle.history.specs.declared.turn.Cause.TheVariants.{Campaign}
 use Rattle.script_semantics.specs.Commands.{Plain}
 use Rattle.script_semantics.specs.Parts.{Plays}
-use Rattle.script_semantics.specs.Round.{round_tasks}
-use Rattle.script_semantics.specs.Settling.{Drains, IsDrainRound, IsQuiet, cleared, campaign_tasks, coordinator, restart_tasks}
-use Rattle.script_semantics.specs.Situation.{Do, Performs, Situation, Task, after_turn, after_turns}
+use Rattle.script_semantics.specs.Settling.{Drains, IsDrainRound, IsQuiet, cleared, coordinator, restart_tasks}
+use Rattle.script_semantics.specs.Situation.{Do, Situation}
 use Rattle.settling.specs.Leads.{GoesDrainRound}
 use Rattle.settling.specs.Rounds.{GoesOnWithin as BookGoesOnBy, IsFaultless}
 use Rattle.settling.specs.Campaigns.{GoesCampaign}
@@ -23,81 +21,18 @@ use Rattle.settling.specs.Idle.{IsIdleAt, left_of}
 use Rattle.settling.specs.Settles.{HasBeenIdleFor, LeadsNow, LeadsSoon}
 use Rattle.settling.proofs.SettleLeadLemmas.{campaign_faultless, first_leads, leads_nearer, leads_on, soon_faultless, soon_last, soon_nearer, soon_quiet}
 use Rattle.settling.proofs.SettleIdleLemmas.{rested_leads, rested_quiet}
-use Rattle.world_law.specs.Book.{posted_as}
-use Rattle.world_law.specs.declared.letter.LetterRow.{LetterRow}
 use Rattle.world_rounds.proofs.DrainLemmas.{HasDrained, runs_in, same_count}
 use Rattle.world_rounds.proofs.QuietLemmas.{node_state, node_table, node_waits, tells_no_quiet}
 use Rattle.world_rounds.proofs.Limits.{within_bounds}
-use Rattle.world_rounds.proofs.Waiting.{posted_are}
-use Rattle.world_rounds.specs.Bounds.{AreShort, IsBookBounded, IsFaultlessIn, left_in, left_to}
+use Rattle.world_rounds.specs.Bounds.{IsBookBounded, IsFaultlessIn, left_in, left_to}
 use Rattle.world_rounds.specs.Drains.{DrainsOn}
 use Rattle.world_rounds.specs.Quiet.{AllRun, IsIn, AnswersFor}
 use Rattle.world_rounds.specs.World.{GoesOnBy, IsWorld, IsWorldAt}
 use Rattle.world_rounds.specs.declared.member.Member.{Member}
 use Rattle.world_rounds.specs.declared.world.World.{World}
-use Rattle.due_set.proofs.Rising.{Contains-head as in_first, Contains-tail as in_rest, Contains-cases as cons_cases}
 use Rattle.due_set.proofs.SoundLemmas.{at_place as found_at}
-use Rattle.script_semantics.proofs.OtherLemmas.{posts as posted_one}
-
--- ---- letters
-
-posted_more : (n : ℕ) (situation : Situation) (rows : List Row) → (more : List PostedLetter) × ((after_turns n situation rows).standing.posted ≡ situation.standing.posted ++ more)
-posted_more n situation [] = ([], sym (append_nil situation.standing.posted))
-posted_more n situation (row ∷ rows) =
-    let one = posted_one n situation.standing row.turn row.event row.letters in
-    let rest = posted_more n (after_turn n situation row) rows in
-    (one.0 ++ rest.0, rest.1 ∙ ap (λ posted. posted ++ rest.0) one.1 ∙ append_assoc situation.standing.posted one.0 rest.0)
-
-performed_more : (n : ℕ) (tasks : List Task) (situation after : Situation) (rows : List Row) → Performs n tasks situation rows after
-    → (more : List PostedLetter) × (after.standing.posted ≡ situation.standing.posted ++ more)
-performed_more n tasks situation after rows performs =
-    let more = posted_more n situation rows in
-    (more.0, ap (λ (s : Situation). s.standing.posted) performs.is ∙ more.1)
-
-drained_more : (n : ℕ) (table : Table) (who : ℕ) (at : ℤ) (situation after : Situation) (rows : List Row) → IsDrainRound n table who at situation rows after
-    → (more : List PostedLetter) × (after.standing.posted ≡ situation.standing.posted ++ more)
-drained_more n table who at situation after rows parts =
-    let one = performed_more n (campaign_tasks who (situation.standing.replicas who).term) situation parts.middle parts.front parts.one in
-    let two = performed_more n (round_tasks n table.window at parts.middle) parts.middle after parts.back parts.two in
-    (one.0 ++ two.0, two.1 ∙ ap (λ posted. posted ++ two.0) one.1 ∙ append_assoc situation.standing.posted one.0 two.0)
-
--- old letters stay, and new ones come behind them
-kept_or_new : (old new : List LetterRow) (more : List PostedLetter) → map posted_as new ≡ map posted_as old ++ more → AreShort old → AreShort (drop (length old) new) → AreShort new
-kept_or_new [] new more is short rest = rest
-kept_or_new (first ∷ old) [] more is short rest = absurd cc
-kept_or_new (first ∷ old) (letter ∷ new) more is short rest = λ one has. elim (cons_cases letter new one has) [
-  | inl same ↦
-      let head : posted_as letter ≡ posted_as first = cc in
-      let bytes : letter.bytes ≡ first.bytes = ap (λ (l : PostedLetter). l.bytes) head in
-      subst (λ (l : LetterRow). length l.bytes < 56 * 2 ^ 31) same (subst (λ bytes. length bytes < 56 * 2 ^ 31) (sym bytes) (short first (in_first first old)))
-  | inr other ↦
-      let tail : map posted_as new ≡ map posted_as old ++ more = cc in
-      kept_or_new old new more tail (λ l among. short l (in_rest first old l among)) rest one other
-]
 
 module _ {D : Type 0} (view : DiskView D) (table : Table) where
-  -- ---- parts of a legal book
-
-  part_bounded : (part : Situation → List Row → Situation → Type 0) (old new : World D) → IsWorld view table old
-      → ((situation : Situation) (rows : List Row) (after : Situation) → part situation rows after → (more : List PostedLetter) × (after.standing.posted ≡ situation.standing.posted ++ more))
-      → GoesOnBy view table part old new
-      → IsBookBounded old.book → length new.book.turns < 2 ^ 59 → AreShort (drop (length old.book.letters) new.book.letters) → IsBookBounded new.book
-  part_bounded part old new world posts goes bounded turns short = record {
-    turns = turns;
-    letters =
-        let gone = goes world.rows world.situation world.is in
-        let more = posts world.situation gone.0 gone.1 gone.2 in
-        kept_or_new old.book.letters new.book.letters more.0
-        (sym (posted_are view table (world.rows ++ gone.0) new gone.1 gone.3) ∙ more.1
-        ∙ ap (λ posted. posted ++ more.0) (posted_are view table world.rows old world.situation world.is))
-        bounded.letters short;
-  }
-
-  pub round_bounded : (who : ℕ) (at : ℤ) (old new : World D) → IsWorld view table old → GoesOnBy view table (IsDrainRound old.book.members table who at) old new
-      → IsBookBounded old.book → length new.book.turns < 2 ^ 59 → AreShort (drop (length old.book.letters) new.book.letters) → IsBookBounded new.book
-  round_bounded who at old new world goes bounded turns short =
-      part_bounded (IsDrainRound old.book.members table who at) old new world (λ situation rows after part. drained_more old.book.members table who at situation after rows part) goes bounded turns short
-
   -- what a world does is what its book does
   goes_book : (part : Situation → List Row → Situation → Type 0) (at : ℤ) (old new : World D) (rows more : List Row) (situation after : Situation) → IsInWindow table.window at
       → IsWorldAt view table rows old situation → IsFaultless old.book.members situation → part situation more after
@@ -310,18 +245,6 @@ module _ {D : Type 0} (view : DiskView D) (table : Table) where
   pub not_quiet : (who : ℕ) (at : ℤ) (world : World D) → AnswersFor view table (IsIdleAt table who at) world false
       → AnswersFor view table (IsQuiet world.book.members table who at) world false
   not_quiet who at world tells = tells_no_quiet view table world who at tells
-
-  pub letters_grow : (who : ℕ) (at : ℤ) (old new : World D) → IsWorld view table old → GoesOnBy view table (IsDrainRound old.book.members table who at) old new
-      → length old.book.letters ≤ length new.book.letters
-  letters_grow who at old new world goes =
-      let gone = goes world.rows world.situation world.is in
-      let more = drained_more old.book.members table who at world.situation gone.1 gone.0 gone.2 in
-      let all : length new.book.letters ≡ length (world.situation.standing.posted ++ more.0) =
-      sym (length-map new.book.letters posted_as) ∙ ap length (sym (posted_are view table (world.rows ++ gone.0) new gone.1 gone.3) ∙ more.1) in
-      let long = length-append world.situation.standing.posted more.0 in
-      let was : length world.situation.standing.posted ≡ length old.book.letters =
-      ap length (posted_are view table world.rows old world.situation world.is) ∙ length-map old.book.letters posted_as in
-      omega (arith, all, long, was)
 
   pub below_in : (who : ℕ) (at : ℤ) (old now : World D) → IsWorld view table old → HasDrained view table who at old now → who < length old.members.items
       → who < length now.members.items

@@ -125,28 +125,13 @@ impl<D: ArmedDisk + Send> World<D> {
             Command::Campaign { member } => self.campaign(table, member),
             Command::Stop { member } => self.stop(table, member),
             Command::Cut { from, to } => self.cut(from, to),
-            Command::Heal => {
-                self.heal();
-                Ok(())
-            }
-            Command::Drop { from, to } => {
-                self.drop_letters(from, to);
-                Ok(())
-            }
+            Command::Heal => Ok(self.heal()),
+            Command::Drop { from, to } => Ok(self.drop_letters(from, to)),
             Command::Repeat { from, to } => self.repeat_letters(from, to),
-            Command::Reverse { member } => {
-                self.reverse_letters(member);
-                Ok(())
-            }
+            Command::Reverse { member } => Ok(self.reverse_letters(member)),
             Command::Again { letter } => self.send_again(letter),
-            Command::Skew { member, minutes } => {
-                self.skew(member, minutes);
-                Ok(())
-            }
-            Command::Fate { member, fate } => {
-                self.set_fate(member, fate);
-                Ok(())
-            }
+            Command::Skew { member, minutes } => Ok(self.skew(member, minutes)),
+            Command::Fate { member, fate } => Ok(self.set_fate(member, fate)),
             Command::Restart { member } => self.restart(table, member),
             Command::Arrive { late } => self.arrive(table, late),
             Command::Settle { at } => self.settle(table, at),
@@ -155,10 +140,7 @@ impl<D: ArmedDisk + Send> World<D> {
                 member,
                 pass,
                 image,
-            } => {
-                self.arm(member, pass, image);
-                Ok(())
-            }
+            } => Ok(self.arm(member, pass, image)),
             Command::Free { .. } => unreachable!(),
         }
     }

@@ -52,7 +52,6 @@ impl<D: Disk> World<D> {
     // A round of a drain, within the bounds in which letters are heard whole.
     fn drain_round(&mut self, table: &JobTable, who: u8, at: Minute) -> Result<(), OutOfMemory>
         requires world { IsWorld D.view table.now self.old }
-        requires bounded { IsBookBounded (book_of self.old) }
         requires run { AllRun self.old }
         requires member { who < length self.old.members.items }
         requires inside { IsInWindow table.now.window at.0 }
@@ -62,9 +61,8 @@ impl<D: Disk> World<D> {
         ensures members { OnOk result ((book_of self.new).members ≡ (book_of self.old).members) }
         ensures legal { OnErr result (IsLegalBook table.now (book_of self.new)) }
     {
-        let first = self.book.letters().len();
         self.lead_round(table, who, at)?;
-        check_bounds(&self.book, first)
+        check_bounds(&self.book)
     }
 
     // Rounds of a drain until one leads, four at most.
@@ -165,7 +163,7 @@ impl<D: Disk> World<D> {
         self.start_over(table)?;
         let who = self.coordinator(table);
         self.lead(table, who)?;
-        check_bounds(&self.book, 0)?;
+        check_bounds(&self.book)?;
         self.drain_until_led(table, who, at)?;
         self.drain(table, who, at)?;
         Ok(who)

@@ -1,27 +1,10 @@
-use Rattle.std.proofs.Common.{◌≤◌, drop, length, ap, sym, subst}
 use Rattle.script_semantics.specs.Settling.{IsDrainRound}
-use Rattle.world_rounds.specs.Bounds.{AreShort}
 use Rattle.world_rounds.proofs.DrainLemmas.{drained_as_set, run_on, world_gone}
-use Rattle.world_rounds.proofs.LoopLemmas.{letters_grow, round_bounded}
 use Rattle.world_rounds.proofs.RoundsOfAll.{legal_world, on_any, on_err}
 use Rattle.world_rounds.proofs.world.World.drain_round.Goals as goal
-use Rattle.replica_draft.proofs.DraftLemmas.{on_ok as on_both}
-
-pub check_bounds-requires : goal.check_bounds-requires
-check_bounds-requires g c =
-    subst (λ n. n ≤ length c.lead_round.new.self.book.letters) (sym (ap length c.letters-first.ensures))
-    (letters_grow g.D.Disk.view c.args.table.now c.args.who c.args.at.0 c.args.self.now c.lead_round.new.self c.requires.world c.in_ok-lead_round.ensures.goes)
 
 pub returns-clause-goes : goal.returns-clause-goes
 returns-clause-goes g c = on_any c.check_bounds.result _ c.in_ok-lead_round.ensures.goes
-
-pub returns-clause-bounded : goal.returns-clause-bounded
-returns-clause-bounded g c =
-    on_both c.check_bounds.result _ _ _
-    (λ turns short.
-    round_bounded g.D.Disk.view c.args.table.now c.args.who c.args.at.0 c.args.self.now c.lead_round.new.self c.requires.world c.in_ok-lead_round.ensures.goes c.requires.bounded turns
-    (subst (λ n. AreShort (drop n c.lead_round.new.self.book.letters)) (ap length c.letters-first.ensures) short))
-    c.check_bounds.ensures.turns c.check_bounds.ensures.letters
 
 pub returns-clause-run : goal.returns-clause-run
 returns-clause-run g c =

@@ -27,9 +27,6 @@ drain_round-requires-clause-run g c = c.rounds.invariant.0.run
 pub drain_round-requires-clause-member : goal.drain_round-requires-clause-member
 drain_round-requires-clause-member g c = below_in g.D.Disk.view c.args.table.now c.args.who c.args.at.0 c.args.self.now c.rounds.self (given_world g.D.Disk.view c.args.table.now (λ n s. HasBeenIdleFor 0 n c.args.table.now c.args.who c.args.at.0 s) c.args.self.now c.requires.given) c.rounds.invariant.0 c.requires.member
 
-pub drain_round-requires-clause-bounded : goal.drain_round-requires-clause-bounded
-drain_round-requires-clause-bounded g c = c.rounds.invariant.2.bounded
-
 pub rounds-preserved : goal.rounds-preserved
 rounds-preserved g c =
     let next = caught_up_next g.D.Disk.view c.args.table.now c.args.who c.args.at.0 c.rounds._round c.rounds.self c.drain_round.new.self c.requires.inside c.rounds.invariant.1 c.rounds.invariant.2 (subst (λ answer. AnswersFor g.D.Disk.view c.args.table.now (IsQuiet c.rounds.self.book.members c.args.table.now c.args.who c.args.at.0) c.rounds.self answer) c.if-is_quiet.false c.is_quiet.ensures) c.in_ok-drain_round.ensures.goes c.in_ok-drain_round.ensures.members c.in_ok-drain_round.ensures.bounded in (

@@ -27,9 +27,6 @@ drain_round-requires-clause-run g c = c.rounds.invariant.0.run
 pub drain_round-requires-clause-member : goal.drain_round-requires-clause-member
 drain_round-requires-clause-member g c = below_in g.D.Disk.view c.args.table.now c.args.who c.args.at.0 c.args.self.now c.rounds.self (given_world g.D.Disk.view c.args.table.now (λ n s. LeadsNow n c.args.table.now c.args.who s) c.args.self.now c.requires.given) c.rounds.invariant.0 c.requires.member
 
-pub drain_round-requires-clause-bounded : goal.drain_round-requires-clause-bounded
-drain_round-requires-clause-bounded g c = c.rounds.invariant.1.bounded
-
 pub rounds-smaller : goal.rounds-smaller
 rounds-smaller g c =
     let drained = drained_next g.D.Disk.view c.args.table.now c.args.who c.args.at.0 c.args.self.now c.rounds.self c.drain_round.new.self c.rounds.invariant.0 (not_quiet g.D.Disk.view c.args.table.now c.args.who c.args.at.0 c.rounds.self (subst (λ answer. AnswersFor g.D.Disk.view c.args.table.now (IsIdleAt c.args.table.now c.args.who c.args.at.0) c.rounds.self answer) c.rounds-test.true c.is_idle.ensures)) c.in_ok-drain_round.ensures.goes c.in_ok-drain_round.ensures.members in

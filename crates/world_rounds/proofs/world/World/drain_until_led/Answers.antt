@@ -28,9 +28,6 @@ drain_round-requires-clause-run g c = c.rounds.invariant.0.run
 pub drain_round-requires-clause-member : goal.drain_round-requires-clause-member
 drain_round-requires-clause-member g c = below_in g.D.Disk.view c.args.table.now c.args.who c.args.at.0 c.args.self.now c.rounds.self (given_world g.D.Disk.view c.args.table.now (λ n s. LeadsSoon 4 n c.args.table.now c.args.who s) c.args.self.now c.requires.given) c.rounds.invariant.0 c.requires.member
 
-pub drain_round-requires-clause-bounded : goal.drain_round-requires-clause-bounded
-drain_round-requires-clause-bounded g c = c.rounds.invariant.1.bounded
-
 pub rounds-preserved : goal.rounds-preserved
 rounds-preserved g c =
     let more : 4 - c.rounds._round ≡ suc (4 - (c.rounds._round + 1)) = omega (arith, c.rounds-test.true) in (

@@ -31,7 +31,7 @@ pub drain_until_led-requires-clause-given : goal.drain_until_led-requires-clause
 drain_until_led-requires-clause-given g c =
     lead_given g.D.Disk.view c.args.table.now c.coordinator-who.result c.args.at.0 c.args.self.now c.start_over.new.self c.lead.new.self c.requires.inside c.requires.some c.requires.world c.in_ok-start_over.ensures.goes
     c.in_ok-start_over.ensures.run c.in_ok-start_over.ensures.members c.coordinator-who.ensures.is c.in_ok-lead.ensures.goes c.in_ok-lead.ensures.members
-    (record { turns = c.in_ok-check_bounds.ensures.turns; letters = c.in_ok-check_bounds.ensures.letters })
+    c.in_ok-check_bounds.ensures
 
 pub drain_until_led-requires-clause-member : goal.drain_until_led-requires-clause-member
 drain_until_led-requires-clause-member g c =
