@@ -4,7 +4,7 @@ use Rattle.std.specs.Prelude.{IfErr, IsErrAnd, IsSome, IsSomeAnd}
 use Rattle.std.specs.Io.KnownBytes.{Consumes}
 use Rattle.std.proofs.lemmas.List.{append-nil}
 use Rattle.cron_io.specs.Faults.{Rose}
-use Rattle.cron_io.specs.Reading.{HasReadOn, IsReadToEnd}
+use Rattle.cron_io.specs.Reading.{HasReadOn, IsReadToEnd, StaysReliable}
 use Rattle.cron_io.specs.Views.{SourceView, SinkView}
 use Rattle.cron_io.specs.Writing.{HasGained, HasGainedPrefix}
 use Rattle.disk_model.specs.declared.mem_disk.MemDisk.{MemDisk}
@@ -26,11 +26,12 @@ use Rattle.report_text.specs.declared.fault.ReportFault.TheVariants as report
 use Rattle.due_list.specs.Listing.{WritesListing}
 use Rattle.due_list.specs.declared.fault.ListFault.{ListFault}
 use Rattle.due_list.specs.declared.fault.ListFault.TheVariants as listing
-use Rattle.cron_serve.specs.Ends.{Ends, EndsUnread}
-use Rattle.cron_serve.specs.Serve.{IsGiven, IsJournalOf, IsRefused, IsReportOf, IsRunOf, IsSummaryOf, IsTextOf, LeavesNoRun}
+use Rattle.cron_serve.specs.Complete.{Completes}
+use Rattle.cron_serve.specs.Ends.{Ends, EndsServing, EndsUnread}
+use Rattle.cron_serve.specs.Serve.{IsGiven, IsJournalOf, IsRefused, IsRunOf, IsSummaryOf, IsTextOf, LeavesNoRun}
 use Rattle.cron_serve.specs.Input.{IsOfInput, IsRefusedBytes}
 use Rattle.cron_serve.specs.Stop.{StopsFor, refusal_of, status_of, stop_of_run}
-use Rattle.cron_serve.specs.Written.{EndsWriting, WritesAtStatus, WritesTextOf, status_of_listing, status_of_writing}
+use Rattle.cron_serve.specs.Written.{EndsRunText, EndsWriting, WritesAtStatus, WritesTextOf, status_of_listing, status_of_writing}
 use Rattle.cron_serve.specs.declared.words.Output.{Output}
 use Rattle.cron_serve.specs.declared.words.Output.TheVariants.{Report, Journal, DueList, Check, Summary}
 use Rattle.run_text.specs.Steps.{IfRefused}
@@ -55,7 +56,7 @@ prefix_of_whole : (old new : SinkView) (text : List ℕ) → HasGained old new t
 prefix_of_whole old new text gained = record { front = text; back = []; parts = sym (append-nil text); gained = gained }
 
 -- what was written, at the status of the writing's end
-pub written_at : (old new : SinkView) (result : Result (Unit {0}) ReportFault) (status : ℕ) (text : List ℕ) → status ≡ status_of_writing result
+written_at : (old new : SinkView) (result : Result (Unit {0}) ReportFault) (status : ℕ) (text : List ℕ) → status ≡ status_of_writing result
     → Writes old new result text → WritesAtStatus old new status text
 written_at old new (Ok done) status text is w = record {
   whole = λ _. w.written;
@@ -82,21 +83,25 @@ written_at old new (Err report.OutOfMemory) status text is w = record {
   beyond = λ four room tells_room. absurd (omega (arith, is));
 }
 
-pub three_statuses : (result : Result (Unit {0}) ReportFault) (status : ℕ) → status ≡ status_of_writing result → (status ≡ 0) ⊎ (status ≡ 4) ⊎ (status ≡ 5)
+three_statuses : (result : Result (Unit {0}) ReportFault) (status : ℕ) → status ≡ status_of_writing result → (status ≡ 0) ⊎ (status ≡ 4) ⊎ (status ≡ 5)
 three_statuses (Ok done) status is = inl is
 three_statuses (Err report.WriteFault) status is = inr (inl is)
 three_statuses (Err report.OutOfMemory) status is = inr (inr is)
 
--- what the end of a run says, of which a text was written or begun
-pub record EndsRun (sink sink' : SinkView) (book : BookState) (nodes : List (Node MemDisk)) (end : RunEnd) (text : List ℕ) : Type 0 where
-  pub written : WritesAtStatus sink sink' end.status text
-  pub same_book : end.book ≡ book
-  pub same_nodes : end.nodes.items ≡ nodes
-  pub no_refusal : end.refusal ≡ None
-  pub statuses : (end.status ≡ 0) ⊎ (end.status ≡ 4) ⊎ (end.status ≡ 5)
+-- how the program ends after the writing of a run's text
+pub run_ended : (old new : SinkView) (result : Result (Unit {0}) ReportFault) (book : BookState) (nodes : List (Node MemDisk)) (end : RunEnd) (text : List ℕ)
+    → end.status ≡ status_of_writing result → end.book ≡ book → end.nodes.items ≡ nodes → end.refusal ≡ None → Writes old new result text
+    → EndsRunText old new book nodes end text
+run_ended old new result book nodes end text status same_book same_nodes no_refusal w = record {
+  written = written_at old new result end.status text status w;
+  same_book = same_book;
+  same_nodes = same_nodes;
+  no_refusal = no_refusal;
+  statuses = three_statuses result end.status status;
+}
 
 ends_run : (output : Output) (bytes : List ℕ) (sink sink' : SinkView) (book : BookState) (nodes : List (Node MemDisk)) (end : RunEnd) (text : List ℕ)
-    → IsTextOf output bytes book nodes text → EndsRun sink sink' book nodes end text → EndsWriting output bytes sink sink' end
+    → IsTextOf output bytes book nodes text → EndsRunText sink sink' book nodes end text → EndsWriting output bytes sink sink' end
 ends_run output bytes sink sink' book nodes end text of e =
     let is : IsTextOf output bytes end.book end.nodes.items text =
     subst (λ (b : BookState). IsTextOf output bytes b end.nodes.items text) (sym e.same_book)
@@ -110,12 +115,6 @@ ends_run output bytes sink sink' book nodes end text of e =
       memory = λ five. inr writes;
     }
 
-pub ends_launches : (bytes : List ℕ) (sink sink' : SinkView) (table : Table) (book : BookState) (nodes : List (Node MemDisk)) (end : RunEnd) (text : List ℕ)
-    → IsRunOf bytes table book nodes → IsBookReport table book text → EndsRun sink sink' book nodes end text → EndsWriting Report bytes sink sink' end
-ends_launches bytes sink sink' table book nodes end text run report e =
-    let of : IsReportOf bytes book nodes text = record { table = table; run = run; report = report } in
-    ends_run Report bytes sink sink' book nodes end text of e
-
 -- a journal may be written of a run
 pub may_start : (bytes : List ℕ) (table : Table) (book : BookState) (nodes : List (Node MemDisk)) (starts : List ℕ) (run : IsRunOf bytes table book nodes)
     → HasStarts table run.run.commands book starts → AreStarts (length book.turns) starts × IsBookJournal table run.run.commands book (journal_text table book.turns starts)
@@ -123,7 +122,7 @@ may_start bytes table book nodes starts run has = book_starts table run.run.comm
 
 pub ends_journal : (bytes : List ℕ) (sink sink' : SinkView) (table : Table) (book : BookState) (nodes : List (Node MemDisk)) (starts : List ℕ) (end : RunEnd) (front : List ℕ)
     → (run : IsRunOf bytes table book nodes) → HasStarts table run.run.commands book starts → IsBookReport table book front
-    → EndsRun sink sink' book nodes end (front ++ journal_text table book.turns starts) → EndsWriting Journal bytes sink sink' end
+    → EndsRunText sink sink' book nodes end (front ++ journal_text table book.turns starts) → EndsWriting Journal bytes sink sink' end
 ends_journal bytes sink sink' table book nodes starts end front run has report e =
     let journal = (may_start bytes table book nodes starts run has).1 in
     let of : IsJournalOf bytes book nodes (front ++ journal_text table book.turns starts) = record {
@@ -138,7 +137,7 @@ ends_journal bytes sink sink' table book nodes starts end front run has report e
     ends_run Journal bytes sink sink' book nodes end (front ++ journal_text table book.turns starts) of e
 
 pub ends_summary : (seed : ℕ) (bytes : List ℕ) (sink sink' : SinkView) (table : Table) (book : BookState) (nodes : List (Node MemDisk)) (end : RunEnd) (text : List ℕ)
-    → IsRunOf bytes table book nodes → IsBookSummary table seed book text → EndsRun sink sink' book nodes end text → EndsWriting (Summary seed) bytes sink sink' end
+    → IsRunOf bytes table book nodes → IsBookSummary table seed book text → EndsRunText sink sink' book nodes end text → EndsWriting (Summary seed) bytes sink sink' end
 ends_summary seed bytes sink sink' table book nodes end text run summary e =
     let of : IsSummaryOf seed bytes book nodes text = record { table = table; run = run; summary = summary } in
     ends_run (Summary seed) bytes sink sink' book nodes end text of e
@@ -311,6 +310,44 @@ ends_stopped output source source' sink stop end e read_on why =
 -- faulty words: nothing was read
 pub ends_unread : (source : SourceView) (sink : SinkView) (end : RunEnd) → EndsStopped Usage end → EndsUnread source source sink sink end
 ends_unread source sink end e = record { unread = refl; unwritten = refl; no_refusal = e.refusal; no_run = e.no_run }
+
+-- the end of a run that was made, over any source: nothing of it was read
+pub serving_made : (output : Output) (source : SourceView) (reliable : Type 0) (sink sink' : SinkView) (end : RunEnd) → Ends output source source sink sink' end
+    → Completes output source source sink sink' end → (end.status ≡ 0) ⊎ (end.status ≡ 4) ⊎ (end.status ≡ 5)
+    → EndsServing output source source reliable reliable sink sink' end
+serving_made output source reliable sink sink' end ends complete statuses = record {
+  ends = ends;
+  complete = complete;
+  words = λ is. absurd (omega (arith, statuses));
+  no_read_fault = λ sure is. absurd (omega (arith, statuses));
+  lasting = λ sure. record { quiet = refl; still = sure };
+}
+
+-- without a fault of a read no stop has the status of one
+not_read_fault : (stop : Stop) → ¬ (stop ≡ ReadFault) → status_of stop ≢ 3
+not_read_fault Usage other three = absurd (omega arith)
+not_read_fault (Refused given) other three = absurd (omega arith)
+not_read_fault ReadFault other three = other refl
+not_read_fault OutOfMemory other three = absurd (omega arith)
+
+-- words that ask for a text are not at fault
+not_usage : (output : Output) (source source' : SourceView) (stop : Stop) → StopsFor output source source' stop → status_of stop ≢ 1
+not_usage output source source' Usage why one = why
+not_usage output source source' (Refused given) why one = absurd (omega arith)
+not_usage output source source' ReadFault why one = absurd (omega arith)
+not_usage output source source' OutOfMemory why one = absurd (omega arith)
+
+-- the end at a stop, once the words ask for this
+pub serving_stopped : (output : Output) (source source' : SourceView) (reliable reliable' : Type 0) (sink : SinkView) (stop : Stop) (end : RunEnd) → EndsStopped stop end
+    → Completes output source source' sink sink end → HasReadOn source source' → StopsFor output source source' stop → (reliable → ¬ (stop ≡ ReadFault))
+    → (reliable → StaysReliable source source' reliable') → EndsServing output source source' reliable reliable' sink sink end
+serving_stopped output source source' reliable reliable' sink stop end e complete read_on why other lasting = record {
+  ends = ends_stopped output source source' sink stop end e read_on why;
+  complete = complete;
+  words = λ one. not_usage output source source' stop why (sym e.status ∙ one);
+  no_read_fault = λ sure three. not_read_fault stop (other sure) (sym e.status ∙ three);
+  lasting = lasting;
+}
 
 none_mapped : {X Y : Type 0} (f : X → Y) (xs : List X) → map f xs ≡ [] → xs ≡ []
 none_mapped f [] none = refl

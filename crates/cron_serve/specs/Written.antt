@@ -47,6 +47,15 @@ pub record LeavesNothing (sink sink' : SinkView) (book : BookState) (nodes : Lis
   pub unwritten : sink' ≡ sink
   pub no_run : LeavesNoRun book nodes
 
+-- The end of the program that wrote this text of a run, at status 0, or a front of it, at 4 and 5: it leaves this book and these nodes, and
+-- refuses nothing.
+pub record EndsRunText (sink sink' : SinkView) (book : BookState) (nodes : List (Node MemDisk)) (end : RunEnd) (text : List ℕ) : Type 0 where
+  pub written : WritesAtStatus sink sink' end.status text
+  pub same_book : end.book ≡ book
+  pub same_nodes : end.nodes.items ≡ nodes
+  pub no_refusal : end.refusal ≡ None
+  pub statuses : (end.status ≡ 0) ⊎ (end.status ≡ 4) ⊎ (end.status ≡ 5)
+
 -- The end of the program that wrote the text of the bytes: it is told at status 0 and 4, and at 5 where memory ran out within the text.
 -- Where it ran out before, nothing was written.
 pub record EndsWriting (output : Output) (bytes : List ℕ) (sink sink' : SinkView) (end : RunEnd) : Type 0 where

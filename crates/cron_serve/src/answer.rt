@@ -1,14 +1,14 @@
 //! What is written of an input that was read, and how its run, or one that was made, is played.
-ghost use Rattle.std.specs.Prelude.{◌≡◌, ◌⊎◌, ◌++◌, ◌<◌, ◌≤◌, List, ℕ, length, None, IfOk, IfErr};
+ghost use Rattle.std.specs.Prelude.{◌≡◌, ◌++◌, ◌<◌, ◌≤◌, List, ℕ, length, None, IfOk, IfErr};
 ghost use Rattle.journal_text.specs.Journal.{journal_text};
 ghost use Rattle.report_text.specs.Book.{IsBookReport};
 ghost use Rattle.report_text.specs.Writes.{Writes};
 ghost use Rattle.run_text.specs.Steps.{IfRefused};
 ghost use Rattle.script_play.specs.Play.{HasStarts};
-ghost use Rattle.cron_serve.specs.Input.{IsOfInput, IsRefusedAsFrame, IsRefusedAsRun, IsRefusedBytes};
+ghost use Rattle.cron_serve.specs.Input.{IsOfInput, IsRefusedAsRun, IsRefusedBytes};
 ghost use Rattle.cron_serve.specs.Played.{IsPlayed};
 ghost use Rattle.cron_serve.specs.Serve.{IsRunOf, LeavesNoRun};
-ghost use Rattle.cron_serve.specs.Written.{EndsWriting, WritesAtStatus, status_of_listing, status_of_writing};
+ghost use Rattle.cron_serve.specs.Written.{EndsRunText, EndsWriting, status_of_listing, status_of_writing};
 
 use crate::input::{take_frame, take_table};
 use crate::run_end::RunEnd;
@@ -65,50 +65,24 @@ pub fn write_output<K: Sink, R: Threads + Wait + Sync, G: TurnGate + Sync>(
     ensures unwritten { IfErr result (λ _. K.seen sink.new ≡ K.seen sink.old) }
 {
     match asked.output {
-        Output::Report => launch(rt, alloc, asked.lanes, bytes, sink, gate),
-        Output::Journal => tell(rt, alloc, asked.lanes, bytes, sink, gate),
-        Output::DueList => list(alloc, bytes, sink),
-        Output::Check => check(alloc, bytes, sink),
+        Output::Report => {
+            let played = play(rt, alloc, asked.lanes, bytes, gate)?;
+            Ok(report(alloc, sink, played))
+        }
+        Output::Journal => {
+            let told = play(rt, alloc, asked.lanes, bytes, gate)?;
+            Ok(journal(alloc, sink, told))
+        }
+        Output::DueList => {
+            let (_run, table) = take_table(alloc, bytes)?;
+            Ok(end_of_listing(alloc, write_due(alloc, sink, &table)))
+        }
+        Output::Check => {
+            let run = take_frame(alloc, bytes)?;
+            Ok(end_of_listing(alloc, write_check(alloc, sink, &run)))
+        }
         Output::Summary(_) => unreachable!(),
     }
-}
-
-// Plays the run, and writes its report.
-fn launch<K: Sink, R: Threads + Wait + Sync, G: TurnGate + Sync>(
-    rt: &R,
-    alloc: Global,
-    lanes: u8,
-    bytes: &[u8],
-    sink: &mut K,
-    gate: &G,
-) -> Result<RunEnd, RunFault>
-    requires short { length bytes.now ≤ 1_048_576 }
-    requires lanes { 0 < lanes }
-    ensures end { IfOk result (EndsWriting Output.Report bytes.now (K.seen sink.old) (K.seen sink.new)) }
-    ensures refused { IfErr result (λ fault. IfRefused fault (IsRefusedAsRun bytes.now)) }
-    ensures unwritten { IfErr result (λ _. K.seen sink.new ≡ K.seen sink.old) }
-{
-    let played = play(rt, alloc, lanes, bytes, gate)?;
-    Ok(report(alloc, sink, played))
-}
-
-// Plays the run, and writes its report, and its journal behind it.
-fn tell<K: Sink, R: Threads + Wait + Sync, G: TurnGate + Sync>(
-    rt: &R,
-    alloc: Global,
-    lanes: u8,
-    bytes: &[u8],
-    sink: &mut K,
-    gate: &G,
-) -> Result<RunEnd, RunFault>
-    requires short { length bytes.now ≤ 1_048_576 }
-    requires lanes { 0 < lanes }
-    ensures end { IfOk result (EndsWriting Output.Journal bytes.now (K.seen sink.old) (K.seen sink.new)) }
-    ensures refused { IfErr result (λ fault. IfRefused fault (IsRefusedAsRun bytes.now)) }
-    ensures unwritten { IfErr result (λ _. K.seen sink.new ≡ K.seen sink.old) }
-{
-    let played = play(rt, alloc, lanes, bytes, gate)?;
-    Ok(journal(alloc, sink, played))
 }
 
 /// Plays a run in a world of its replicas, free turns with this gate. It may wait.
@@ -147,12 +121,8 @@ pub fn play<R: Threads + Wait + Sync, G: TurnGate + Sync>(
 // Writes the report of a run.
 fn report<K: Sink>(alloc: Global, sink: &mut K, played: Played) -> RunEnd
     requires played { IsPlayed played }
-    ensures text { (text : List ℕ) × IsBookReport played.table played.book text
-        × WritesAtStatus (K.seen sink.old) (K.seen sink.new) result.status text }
-    ensures book { result.book ≡ played.book }
-    ensures nodes { result.nodes.items ≡ played.nodes.items }
-    ensures refusal { result.refusal ≡ None }
-    ensures statuses { (result.status ≡ 0) ⊎ (result.status ≡ 4) ⊎ (result.status ≡ 5) }
+    ensures { (text : List ℕ) × IsBookReport played.table played.book text
+        × EndsRunText (K.seen sink.old) (K.seen sink.new) played.book played.nodes.items result text }
 {
     let written = write_book_report(alloc, sink, &played.table, played.members, &played.book);
     written_end(written, played)
@@ -161,13 +131,9 @@ fn report<K: Sink>(alloc: Global, sink: &mut K, played: Played) -> RunEnd
 // Writes the report of a run, and its journal behind it.
 fn journal<K: Sink>(alloc: Global, sink: &mut K, played: Played) -> RunEnd
     requires played { IsPlayed played }
-    ensures text { (front : List ℕ) × IsBookReport played.table played.book front
-        × WritesAtStatus (K.seen sink.old) (K.seen sink.new) result.status
+    ensures { (front : List ℕ) × IsBookReport played.table played.book front
+        × EndsRunText (K.seen sink.old) (K.seen sink.new) played.book played.nodes.items result
         (front ++ journal_text played.table played.book.turns played.starts.items) }
-    ensures book { result.book ≡ played.book }
-    ensures nodes { result.nodes.items ≡ played.nodes.items }
-    ensures refusal { result.refusal ≡ None }
-    ensures statuses { (result.status ≡ 0) ⊎ (result.status ≡ 4) ⊎ (result.status ≡ 5) }
 {
     let written = write_both(alloc, sink, &played);
     written_end(written, played)
@@ -202,28 +168,6 @@ pub fn written_end(written: Result<(), ReportFault>, played: Played) -> RunEnd
         book: played.book,
         nodes: played.nodes,
     }
-}
-
-// Writes the due instants of the run's jobs.
-fn list<K: Sink>(alloc: Global, bytes: &[u8], sink: &mut K) -> Result<RunEnd, RunFault>
-    requires { length bytes.now ≤ 1_048_576 }
-    ensures end { IfOk result (EndsWriting Output.DueList bytes.now (K.seen sink.old) (K.seen sink.new)) }
-    ensures refused { IfErr result (λ fault. IfRefused fault (IsRefusedAsRun bytes.now)) }
-    ensures unwritten { IfErr result (λ _. K.seen sink.new ≡ K.seen sink.old) }
-{
-    let (_run, table) = take_table(alloc, bytes)?;
-    Ok(end_of_listing(alloc, write_due(alloc, sink, &table)))
-}
-
-// Writes the lines of the run's tables that break a rule.
-fn check<K: Sink>(alloc: Global, bytes: &[u8], sink: &mut K) -> Result<RunEnd, RunFault>
-    requires { length bytes.now ≤ 1_048_576 }
-    ensures end { IfOk result (EndsWriting Output.Check bytes.now (K.seen sink.old) (K.seen sink.new)) }
-    ensures refused { IfErr result (λ fault. IfRefused fault (IsRefusedAsFrame bytes.now)) }
-    ensures unwritten { IfErr result (λ _. K.seen sink.new ≡ K.seen sink.old) }
-{
-    let run = take_frame(alloc, bytes)?;
-    Ok(end_of_listing(alloc, write_check(alloc, sink, &run)))
 }
 
 // The end of a program that wrote a list: no run is left.

@@ -1,8 +1,8 @@
 //! The summary of a run that is made from a seed.
-ghost use Rattle.std.specs.Prelude.{◌≡◌, ◌⊎◌, ◌<◌, ◌≤◌, ℕ, List, None, IfOk, IfErr, string_bytes};
+ghost use Rattle.std.specs.Prelude.{◌≡◌, ◌<◌, ℕ, List, IfOk, IfErr};
 ghost use Rattle.cron_serve.specs.Played.{IsPlayed};
 ghost use Rattle.cron_serve.specs.Serve.{IsRunOf};
-ghost use Rattle.cron_serve.specs.Written.{EndsWriting, WritesAtStatus};
+ghost use Rattle.cron_serve.specs.Written.{EndsRunText, EndsWriting};
 ghost use Rattle.cron_serve.specs.declared.words.Output.{Output};
 ghost use Rattle.journal_text.specs.Summary.{IsBookSummary};
 ghost use Rattle.generated_run.specs.Made.{made_text};
@@ -62,12 +62,8 @@ fn play_made<R: Threads + Wait + Sync, G: TurnGate + Sync>(
 // Writes the summary of the run of a seed.
 fn summarize<K: Sink>(alloc: Global, sink: &mut K, seed: u32, played: Played) -> RunEnd
     requires played { IsPlayed played }
-    ensures text { (text : List ℕ) × IsBookSummary played.table seed played.book text
-        × WritesAtStatus (K.seen sink.old) (K.seen sink.new) result.status text }
-    ensures book { result.book ≡ played.book }
-    ensures nodes { result.nodes.items ≡ played.nodes.items }
-    ensures refusal { result.refusal ≡ None }
-    ensures statuses { (result.status ≡ 0) ⊎ (result.status ≡ 4) ⊎ (result.status ≡ 5) }
+    ensures { (text : List ℕ) × IsBookSummary played.table seed played.book text
+        × EndsRunText (K.seen sink.old) (K.seen sink.new) played.book played.nodes.items result text }
 {
     let written = write_summary(alloc, sink, &played.table, &played.book, seed);
     written_end(written, played)

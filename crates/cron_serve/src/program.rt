@@ -56,32 +56,12 @@ pub fn run<S: Source, K: Sink, E: Sink, R: Threads + Wait + Sync, G: TurnGate + 
         (E.seen notes.old) (E.seen notes.new) result) }
 {
     match args {
-        Ok(args) => run_behind_name(rt, alloc, args, source, sink, notes, gate),
+        Ok(mut words) => {
+            let _name = words.next();
+            cron_cluster(rt, alloc, words, source, sink, notes, gate).status
+        }
         Err(error) => stop_at_once(alloc, stop_of(&error), notes),
     }
-}
-
-// Runs the program on the words behind the first argument.
-fn run_behind_name<S: Source, K: Sink, E: Sink, R: Threads + Wait + Sync, G: TurnGate + Sync>(
-    rt: &R,
-    alloc: Global,
-    mut args: Args,
-    source: &mut S,
-    sink: &mut K,
-    notes: &mut E,
-    gate: &G,
-) -> u8
-    ensures report { (asked : Asked) → Asks (behind_name (texts_of (into_iter_items args))) asked → asked.output ≡ Output.Report → result ≡ 0
-        → ReportsInput (S.seen source.old) (S.seen source.new) (K.seen sink.old) (K.seen sink.new) }
-    ensures ends { (asked : Asked) → Asks (behind_name (texts_of (into_iter_items args))) asked
-        → EndsProgram asked.output (S.seen source.old) (S.seen source.new) (K.seen sink.old) (K.seen sink.new)
-        (E.seen notes.old) (E.seen notes.new) result }
-    ensures words { (result ≡ 1) ↔ HasNoOptions (behind_name (texts_of (into_iter_items args))) }
-    ensures usage { result ≡ 1 → StopsProgram (S.seen source.old) (S.seen source.new) (K.seen sink.old) (K.seen sink.new)
-        (E.seen notes.old) (E.seen notes.new) result }
-{
-    let _name = args.next();
-    cron_cluster(rt, alloc, args, source, sink, notes, gate).status
 }
 
 // Why arguments that can't be had stop the program.

@@ -3,7 +3,7 @@ ghost use Rattle.std.specs.Vec.Iter.{into_iter_items};
 ghost use Rattle.cron_io.specs.Reading.{HasReadOn, StaysReliable};
 ghost use Rattle.cron_io.specs.Views.{SourceView};
 ghost use Rattle.cron_serve.specs.Complete.{Completes};
-ghost use Rattle.cron_serve.specs.Ends.{Ends, EndsUnread};
+ghost use Rattle.cron_serve.specs.Ends.{Ends, EndsServing, EndsUnread};
 ghost use Rattle.cron_serve.specs.Input.{IsOfInput};
 ghost use Rattle.cron_serve.specs.Serve.{note_text, IsNoted};
 ghost use Rattle.cron_serve.specs.Stop.{StopsFor};
@@ -38,10 +38,9 @@ fn answer<S: Source, K: Sink, R: Threads + Wait + Sync, G: TurnGate + Sync>(
 ) -> Result<RunEnd, Stop>
     requires lanes { 0 < asked.lanes }
     requires input { IsOfInput asked.output }
-    ensures ends { IfOk result (Ends asked.output (S.seen source.old) (S.seen source.new) (K.seen sink.old) (K.seen sink.new)) }
-    ensures words { IfOk result (λ end. end.status ≢ 1) }
+    ensures end { IfOk result (EndsServing asked.output (S.seen source.old) (S.seen source.new) (S.reliable source.old) (S.reliable source.new)
+        (K.seen sink.old) (K.seen sink.new)) }
     ensures no_read_fault { IfOk result (λ end. end.status ≢ 3) }
-    ensures complete { IfOk result (Completes asked.output (S.seen source.old) (S.seen source.new) (K.seen sink.old) (K.seen sink.new)) }
     ensures stop { IfErr result (StopsFor asked.output (S.seen source.old) (S.seen source.new)) }
     ensures unwritten { IfErr result (λ _. K.seen sink.new ≡ K.seen sink.old) }
     ensures read_on { HasReadOn (S.seen source.old) (S.seen source.new) }
@@ -65,12 +64,8 @@ fn serve_input<S: Source, K: Sink, R: Threads + Wait + Sync, G: TurnGate + Sync>
 ) -> RunEnd
     requires lanes { 0 < asked.lanes }
     requires input { IsOfInput asked.output }
-    ensures ends { Ends asked.output (S.seen source.old) (S.seen source.new) (K.seen sink.old) (K.seen sink.new) result }
-    ensures words { result.status ≢ 1 }
-    ensures complete { Completes asked.output (S.seen source.old) (S.seen source.new) (K.seen sink.old) (K.seen sink.new) result }
-    ensures no_read_fault { S.reliable source.old → result.status ≢ 3 }
-    ensures lasting { S.reliable source.old →
-        StaysReliable (S.seen source.old) (S.seen source.new) (S.reliable source.new) }
+    ensures { EndsServing asked.output (S.seen source.old) (S.seen source.new) (S.reliable source.old) (S.reliable source.new)
+        (K.seen sink.old) (K.seen sink.new) result }
 {
     match answer(rt, alloc, asked, source, sink, gate) {
         Ok(end) => end,
@@ -119,13 +114,9 @@ fn serve<S: Source, K: Sink, R: Threads + Wait + Sync, G: TurnGate + Sync>(
     gate: &G,
 ) -> RunEnd
     requires lanes { 0 < asked.lanes }
-    ensures ends { Ends asked.output (S.seen source.old) (S.seen source.new) (K.seen sink.old) (K.seen sink.new) result }
-    ensures words { result.status ≢ 1 }
+    ensures end { EndsServing asked.output (S.seen source.old) (S.seen source.new) (S.reliable source.old) (S.reliable source.new)
+        (K.seen sink.old) (K.seen sink.new) result }
     ensures made { (seed : ℕ) → asked.output ≡ Wanted.Summary seed → S.seen source.new ≡ S.seen source.old }
-    ensures complete { Completes asked.output (S.seen source.old) (S.seen source.new) (K.seen sink.old) (K.seen sink.new) result }
-    ensures no_read_fault { S.reliable source.old → result.status ≢ 3 }
-    ensures lasting { S.reliable source.old →
-        StaysReliable (S.seen source.old) (S.seen source.new) (S.reliable source.new) }
 {
     match seed_of(asked.output) {
         Some(seed) => serve_made(rt, alloc, asked.lanes, seed, sink, gate),

@@ -1,18 +1,22 @@
-use Rattle.std.proofs.Common.{subst}
+use Rattle.std.proofs.Common.{subst, arith}
 use Rattle.cron_serve.specs.Written.{EndsWriting}
 use Rattle.cron_serve.proofs.CompleteLemmas.{completes_text}
 use Rattle.cron_serve.proofs.ServeLemmas.{ends_text, given_by_reading}
 use Rattle.cron_serve.proofs.serve.answer.Goals as goal
 
-pub returns-clause-ends : goal.returns-clause-ends
-returns-clause-ends g c =
-    ends_text c.args.asked.output _ _ _ _ c.in_ok-bytes.bytes.items c.in_ok-end.end
-    (given_by_reading c.args.asked.output _ _ c.in_ok-bytes.bytes.items c.requires.input c.in_ok-bytes.ensures.bytes) c.in_ok-bytes.ensures.read_on
-    (subst (λ bytes. EndsWriting c.args.asked.output bytes (g.K.Sink.seen c.args.sink.now) (g.K.Sink.seen c.write_output.new.sink) c.in_ok-end.end)
-    c.deref.ensures.value c.in_ok-end.ensures.end)
-
-pub returns-clause-complete : goal.returns-clause-complete
-returns-clause-complete g c =
-    completes_text c.args.asked.output _ _ _ _ c.in_ok-bytes.bytes.items c.in_ok-end.end c.in_ok-bytes.ensures.bytes
-    (subst (λ bytes. EndsWriting c.args.asked.output bytes (g.K.Sink.seen c.args.sink.now) (g.K.Sink.seen c.write_output.new.sink) c.in_ok-end.end)
-    c.deref.ensures.value c.in_ok-end.ensures.end)
+pub returns-clause-end : goal.returns-clause-end
+returns-clause-end g c =
+    let output = c.args.asked.output in
+    let bytes = c.in_ok-bytes.bytes.items in
+    let end = c.in_ok-end.end in
+    let read = c.in_ok-bytes.ensures in
+    let writes : EndsWriting output bytes (g.K.Sink.seen c.args.sink.now) (g.K.Sink.seen c.write_output.new.sink) end =
+    subst (λ bytes. EndsWriting output bytes (g.K.Sink.seen c.args.sink.now) (g.K.Sink.seen c.write_output.new.sink) end) c.deref.ensures.value c.in_ok-end.ensures.end in
+    let statuses = writes.statuses in
+    record {
+      ends = ends_text output _ _ _ _ bytes end (given_by_reading output _ _ bytes c.requires.input read.bytes) read.read_on writes;
+      complete = completes_text output _ _ _ _ bytes end read.bytes writes;
+      words = λ one. absurd (omega (arith, one, statuses));
+      no_read_fault = λ sure three. absurd (omega (arith, three, statuses));
+      lasting = read.lasting;
+    }

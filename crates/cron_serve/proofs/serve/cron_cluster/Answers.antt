@@ -14,7 +14,7 @@ pub returns-clause-ends : goal.returns-clause-ends
 returns-clause-ends g c = λ asked asks.
     elim c.match-read_words.branch [
       | in-Some w ↦ rw w.end-is (rw w.source-is (rw w.sink-is
-          (subst (λ (a : Asked). Ends a.output (g.S.Source.seen c.args.source.now) (g.S.Source.seen w.serve-end.new.source) (g.K.Sink.seen c.args.sink.now) (g.K.Sink.seen w.serve-end.new.sink) w.serve-end.result) (asks_one _ w.in-Some.asked asked w.in-Some.ensures.asks asks) w.serve-end.ensures.ends)))
+          (subst (λ (a : Asked). Ends a.output (g.S.Source.seen c.args.source.now) (g.S.Source.seen w.serve-end.new.source) (g.K.Sink.seen c.args.sink.now) (g.K.Sink.seen w.serve-end.new.sink) w.serve-end.result) (asks_one _ w.in-Some.asked asked w.in-Some.ensures.asks asks) w.serve-end.ensures.end.ends)))
       | in-None w ↦ absurd (w.in-None.ensures.none asks.0 asks.1)
     ]
 
@@ -22,14 +22,14 @@ pub returns-clause-complete : goal.returns-clause-complete
 returns-clause-complete g c = λ asked asks.
     elim c.match-read_words.branch [
       | in-Some w ↦ rw w.end-is (rw w.source-is (rw w.sink-is
-          (subst (λ (a : Asked). Completes a.output (g.S.Source.seen c.args.source.now) (g.S.Source.seen w.serve-end.new.source) (g.K.Sink.seen c.args.sink.now) (g.K.Sink.seen w.serve-end.new.sink) w.serve-end.result) (asks_one _ w.in-Some.asked asked w.in-Some.ensures.asks asks) w.serve-end.ensures.complete)))
+          (subst (λ (a : Asked). Completes a.output (g.S.Source.seen c.args.source.now) (g.S.Source.seen w.serve-end.new.source) (g.K.Sink.seen c.args.sink.now) (g.K.Sink.seen w.serve-end.new.sink) w.serve-end.result) (asks_one _ w.in-Some.asked asked w.in-Some.ensures.asks asks) w.serve-end.ensures.end.complete)))
       | in-None w ↦ absurd (w.in-None.ensures.none asks.0 asks.1)
     ]
 
 pub returns-clause-unread : goal.returns-clause-unread
 returns-clause-unread g c = λ one.
     elim c.match-read_words.branch [
-      | in-Some w ↦ absurd (w.serve-end.ensures.words (sym (ap (λ end. end.status) w.end-is) ∙ one))
+      | in-Some w ↦ absurd (w.serve-end.ensures.end.words (sym (ap (λ end. end.status) w.end-is) ∙ one))
       | in-None w ↦ rw w.end-is (rw w.source-is (rw w.sink-is (ends_unread _ _ w.stopped-end.result
           (record { status = w.stopped-end.ensures.status; refusal = w.stopped-end.ensures.refusal; no_run = w.stopped-end.ensures.no_run }))))
     ]

@@ -1,14 +1,13 @@
+use Rattle.std.proofs.Common.{Err, ap}
 use Rattle.cron_serve.proofs.CompleteLemmas.{completes_stopped}
-use Rattle.cron_serve.proofs.ServeLemmas.{ends_stopped}
+use Rattle.cron_serve.proofs.ServeLemmas.{serving_stopped}
 use Rattle.cron_serve.proofs.serve.serve_input.Goals as goal
 
-pub returns-in-Err-clause-ends : goal.returns-in-Err-clause-ends
-returns-in-Err-clause-ends g c =
-    rw c.in-Err.ensures.unwritten (ends_stopped c.args.asked.output _ _ _ c.in-Err.stop c.stopped.result
-    (record { status = c.stopped.ensures.status; refusal = c.stopped.ensures.refusal; no_run = c.stopped.ensures.no_run })
-    c.answer.ensures.read_on c.in-Err.ensures.stop)
-
-pub returns-in-Err-clause-complete : goal.returns-in-Err-clause-complete
-returns-in-Err-clause-complete g c =
-    rw c.in-Err.ensures.unwritten (completes_stopped c.args.asked.output _ _ _ c.in-Err.stop c.stopped.result c.requires.input c.stopped.ensures.status c.stopped.ensures.refusal
-    c.in-Err.ensures.stop)
+pub returns-in-Err : goal.returns-in-Err
+returns-in-Err g c =
+    let stopped = c.stopped.ensures in
+    let stop = c.in-Err.stop in
+    let complete = completes_stopped c.args.asked.output _ _ _ stop c.stopped.result c.requires.input stopped.status stopped.refusal c.in-Err.ensures.stop in
+    rw c.in-Err.ensures.unwritten (serving_stopped c.args.asked.output _ _ _ _ _ stop c.stopped.result
+    (record { status = stopped.status; refusal = stopped.refusal; no_run = stopped.no_run }) complete
+    c.answer.ensures.read_on c.in-Err.ensures.stop (λ sure is. c.in-Err.ensures.reliable sure (ap Err is)) c.answer.ensures.lasting)
