@@ -9,7 +9,6 @@ use Rattle.term_core.specs.declared.term.Term.TheVariants.{Follower, Candidate, 
 use Rattle.step_spec.specs.May.{HasSaid}
 use Rattle.agreement.specs.Agree.{HasCast}
 use Rattle.agreement.specs.World.{CastVote, World}
-use Rattle.agreement.proofs.Growing.{}
 use Rattle.step_spec.specs.Hear.{known_from}
 use Rattle.step_spec.specs.Message.{Accepted, Known}
 use Rattle.step_spec.specs.Propose.{vote_of}

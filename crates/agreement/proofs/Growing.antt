@@ -1,8 +1,8 @@
 -- What an act adds to the world, and what it leaves.
-use Rattle.std.proofs.Common.{◌≡◌, ◌≢◌, ℕ, ◌+◌, ◌≤◌, Bool, Option, Some, None, List, [], ◌∷◌, eqb, refl, sym, ap, ◌∙◌, inl, inr, arith, subst, ◌⊎◌}
-use Rattle.std.specs.List.{Contains, filter}
+use Rattle.std.proofs.Common.{◌≡◌, ◌≢◌, ℕ, ◌+◌, ◌≤◌, Option, Some, None, List, [], ◌∷◌, eqb, refl, sym, ap, ◌∙◌, inl, inr, arith, subst, ◌⊎◌}
+use Rattle.std.specs.List.{Contains}
 use Rattle.std.proofs.lemmas.Bool.{both_ways, cases_Bool, eqb-true, eq-eqb, le-leb}
-use Rattle.std.proofs.lemmas.List.Elements.{All-contains, All-contains_itself, All-filter, Contains-push, Contains-push_cases, Contains-append_left, Contains-append_cases}
+use Rattle.std.proofs.lemmas.List.Elements.{All-contains_itself, Contains-push, Contains-push_cases, Contains-append_left, Contains-append_cases}
 use Rattle.paxos_base.specs.Durable.{after_delta}
 use Rattle.paxos_base.specs.Vote.{vote_at, votes_below, votes_from, put_vote}
 use Rattle.paxos_base.specs.declared.durable.Delta.TheVariants.{Voted}

@@ -1,6 +1,5 @@
 -- All that holds of a world, from its beginning on.
-use Rattle.std.proofs.Common.{◌≡◌, ℕ, ◌≤◌, List, [], arith}
-use Rattle.std.specs.List.{Contains}
+use Rattle.std.proofs.Common.{◌≡◌, ℕ, ◌≤◌, List, arith}
 use Rattle.paxos_base.specs.declared.entry.Entry.{Entry}
 use Rattle.due_set.specs.Table.{Table}
 use Rattle.agreement.specs.World.{Doing, MayDo, World, after_doing}

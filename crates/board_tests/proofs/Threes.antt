@@ -1,5 +1,5 @@
 -- What holds of each of three.
-use Rattle.std.proofs.Common.{ℕ, zero, suc, ◌∷◌, [], All, arith}
+use Rattle.std.proofs.Common.{zero, suc, ◌∷◌, [], All, arith}
 
 pub all_three : {X : Type 0} (P : X → Type 0) (a b c : X) → P a → P b → P c → All P (a ∷ b ∷ c ∷ [])
 all_three P a b c pa pb pc zero d below = pa

@@ -1,5 +1,5 @@
 -- The text of lines.
-use Rattle.std.proofs.Common.{◌≡◌, ℕ, List, [], ◌∷◌, ◌++◌, refl}
+use Rattle.std.proofs.Common.{◌≡◌, ℕ, List, [], ◌∷◌, ◌++◌}
 use Rattle.std.proofs.lemmas.Grind.{flat_map-append}
 use Rattle.cron_io.specs.Lines.{text_of_lines}
 

@@ -3,7 +3,7 @@ use Rattle.std.proofs.Common.{◌≡◌, ◌≢◌, ◌⊎◌, ℕ, ◌+◌, ◌
 use Rattle.std.specs.Prelude.{◌==◌}
 use Rattle.cron_fields.specs.Atom.{HasNo}
 use Rattle.cron_fields.specs.Field.{IsField}
-use Rattle.cron_fields.specs.FieldSet.{value_of, least_of, greatest_of}
+use Rattle.cron_fields.specs.FieldSet.{value_of, least_of}
 use Rattle.cron_fields.specs.Item.{StepsTo, IsItem, single, wide, star, last_of}
 use Rattle.cron_fields.specs.Seed.{Seed}
 use Rattle.cron_fields.specs.declared.field.FieldKind.{FieldKind}

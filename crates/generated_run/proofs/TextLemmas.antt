@@ -1,5 +1,5 @@
 -- The text that a seed makes is that of its run.
-use Rattle.std.proofs.Common.{◌≡◌, ◌≢◌, ℕ, zero, suc, ◌+◌, ◌*◌, ◌/◌, ◌<◌, ◌≤◌, ◌^◌, List, [], ◌∷◌, ◌++◌, length, get_or, map, refl, sym, ap, subst, ◌∙◌, inl, inr, arith, codes, decimal, length-append, append_assoc}
+use Rattle.std.proofs.Common.{◌≡◌, ℕ, zero, suc, ◌+◌, ◌*◌, ◌/◌, ◌<◌, ◌≤◌, ◌^◌, List, [], ◌∷◌, ◌++◌, length, map, refl, sym, ap, subst, ◌∙◌, inl, inr, arith, codes, decimal, length-append, append_assoc}
 use Rattle.std.specs.Prelude.{flat_map}
 use Rattle.std.specs.List.{AllByRecursion, range_with_len, sum_by}
 use Rattle.crontab_text.specs.Answers.{IsLineOf}
@@ -17,7 +17,7 @@ use Rattle.script_text.specs.declared.command.Command.TheVariants.{Campaign, Res
 use Rattle.zone_minutes.specs.Stamp.{stamp_text}
 use Rattle.zone_minutes.specs.Window.{IsWithinLimits, window_line}
 use Rattle.zone_minutes.proofs.StampLemmas.{length-stamp_text}
-use Rattle.run_text.specs.Grammar.{first_word, IsLabel, IsZoneName}
+use Rattle.run_text.specs.Grammar.{IsLabel, IsZoneName}
 use Rattle.run_text.specs.Follow.{Nothing, Version, Replicas, Times, Sections, Script, inside}
 use Rattle.run_text.specs.Reading.{ReadsFrom, IsRunText}
 use Rattle.run_text.specs.Run.{Run, run_with, with_section}

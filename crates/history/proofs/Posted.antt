@@ -17,7 +17,7 @@ use Rattle.step_spec.specs.Step.{Event, step}
 use Rattle.step_spec.specs.declared.out.OutLetter.{OutLetter}
 use Rattle.step_spec.proofs.OutLemmas.{letters_sent}
 use Rattle.agreement.specs.Transition as taken
-use Rattle.agreement.specs.Transition.{MayTake, after_transition, identity_of}
+use Rattle.agreement.specs.Transition.{after_transition, identity_of}
 use Rattle.agreement.specs.World.{World}
 use Rattle.agreement.proofs.Transitions.{IsFollowed, transitions_followed}
 use Rattle.history.specs.Book.{PostedLetter, Row, acts_at, learned_in, standing_after, votes_in}

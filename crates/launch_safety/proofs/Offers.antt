@@ -12,7 +12,7 @@ use Rattle.term_core.specs.declared.term.Term.{Term}
 use Rattle.term_core.specs.declared.term.Term.TheVariants.{Follower, Candidate, Leader}
 use Rattle.launch_machine.specs.declared.machine.Intent.{Intent}
 use Rattle.launch_machine.specs.declared.machine.Intent.TheVariants as intent
-use Rattle.step_spec.specs.Act.{Act, Cast, Propose}
+use Rattle.step_spec.specs.Act.{Act}
 use Rattle.step_spec.specs.Hear.{hear, hear_all}
 use Rattle.step_spec.specs.May.{HasSaid, Saying, WasSaid}
 use Rattle.step_spec.specs.Message.{Message, Accept}
@@ -20,9 +20,8 @@ use Rattle.step_spec.specs.Propose.{answer, answer_of, campaign, end_if, follow_
 use Rattle.step_spec.specs.State.{State, Identity, prefix_of}
 use Rattle.step_spec.specs.Step.{Event, Campaign, Tick, Hear, Answer, Plan, step}
 use Rattle.step_spec.proofs.Lists.{nothing_in}
-use Rattle.agreement.proofs.Growing.{Casts}
 use Rattle.history.specs.Book.{votes_by, votes_of}
-use Rattle.history.proofs.PlainLemmas.{AllPlain, AsksFor, IsPlain, RestPlain, step_plain, vote_of_act, plain_vote, plain_votes}
+use Rattle.history.proofs.PlainLemmas.{AsksFor, RestPlain, step_plain, plain_votes}
 use Rattle.due_set.proofs.Rising.{Contains-cases as cons_cases}
 
 -- the event is a tick at the start's instant, and its plan is that start; of another entry nothing is asked

@@ -1,6 +1,5 @@
 -- A replica that doesn't stop forgets nothing that it has learned.
-use Rattle.std.proofs.Common.{◌≡◌, ℕ, ◌-◌, ◌≤◌, eqb, Some, None, List, [], ◌∷◌, ◌++◌, length, take, refl, sym, ap, ◌∙◌, inl, inr, arith, subst, append_assoc, append-nil}
-use Rattle.std.specs.List.{slice_get}
+use Rattle.std.proofs.Common.{◌≡◌, ℕ, ◌-◌, ◌≤◌, eqb, Some, None, List, [], ◌∷◌, ◌++◌, refl, sym, ◌∙◌, inl, inr, arith, subst, append_assoc, append-nil}
 use Rattle.std.proofs.lemmas.Bool.{cases_Bool, eqb-true}
 use Rattle.std.proofs.lemmas.List.{length-append, length-drop}
 use Rattle.std.proofs.lemmas.List.Sums.{fold_push}
@@ -18,7 +17,7 @@ use Rattle.history.specs.Legal.{IsLegal, MayFollow}
 use Rattle.history.specs.declared.turn.Turn.{Turn}
 use Rattle.history.specs.declared.turn.Turn.TheVariants.{Did, Stopped, Restarted, Arrived}
 use Rattle.launch_safety.proofs.Asking.{acts_may, setting}
-use Rattle.history.proofs.FrontLemmas.{finds_first, take_front, front_legal, follows_there}
+use Rattle.history.proofs.FrontLemmas.{front_legal, follows_there}
 
 -- an act of a step learns or leaves what was learned
 act_rises : (setting : Setting) (state : State) (event : Event) (act : Act) → setting.event ≡ Some event → May setting state act → prefix_of state ≤ prefix_of (after_act act state)

@@ -5,7 +5,6 @@ use Rattle.paxos_letter.specs.Letters.{Spells}
 use Rattle.paxos_letter.specs.declared.fault.LetterFault.{LetterFault}
 use Rattle.paxos_letter.specs.Spelling.{fields_of}
 use Rattle.paxos_letter.specs.declared.packet.Packet.{Packet}
-use Rattle.paxos_letter.specs.declared.packet.Packet.TheVariants.{Prepare, Promise, OldVote, Accept, Accepted, Nack, Known, AskFrom, Snap, SnapRow, Lead}
 use Rattle.due_set.specs.Table.{Table}
 use Rattle.step_spec.specs.Hear.{hear_all, not_yet}
 use Rattle.step_spec.specs.Letters.{heard_in, is_small_letter}

@@ -1,5 +1,5 @@
 -- What holds of each replica holds of it after a step.
-use Rattle.std.proofs.Common.{◌≡◌, ℕ, ◌+◌, Option, None, Some, List, [], ◌∷◌, ◌++◌, refl, ap, subst, ◌∙◌, length, unwrap_or}
+use Rattle.std.proofs.Common.{◌≡◌, ℕ, ◌+◌, Option, None, Some, List, refl, ap, subst, ◌∙◌, length, unwrap_or}
 use Rattle.paxos_base.specs.Rows.{OpenHaveCursors}
 use Rattle.paxos_base.specs.declared.entry.Entry.{Entry}
 use Rattle.paxos_base.specs.declared.entry.Vote.{Vote}

@@ -1,5 +1,5 @@
 -- A replica by the parts of the protocol, and what it is in the words of the protocol.
-use Rattle.std.specs.Prelude.{◌≡◌, ℕ, ◌≤◌, ◌<◌, ◌^◌, List, [], All, Option, None, Some, length, unwrap_or, ◌+◌, ⊤}
+use Rattle.std.specs.Prelude.{◌≡◌, ℕ, ◌≤◌, ◌<◌, ◌^◌, List, [], Option, None, Some, length, unwrap_or, ◌+◌, ⊤}
 use Rattle.paxos_base.specs.Ballot.{round_of}
 use Rattle.paxos_base.specs.Rows.{OpenHaveCursors}
 use Rattle.paxos_base.specs.Vote.{SlotsRise}

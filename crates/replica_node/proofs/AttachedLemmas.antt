@@ -1,5 +1,5 @@
 -- What holds of what bodies stand for, as a replica asks for it where it starts.
-use Rattle.std.proofs.Common.{◌≡◌, ℕ, ◌<◌, ◌≤◌, ◌^◌, Option, None, Some, List, [], ◌∷◌, refl, sym, ap, ◌∙◌, subst, inl, inr, arith}
+use Rattle.std.proofs.Common.{◌≡◌, ℕ, ◌<◌, ◌≤◌, ◌^◌, Option, None, Some, List, [], ◌∷◌, refl, sym, ap, ◌∙◌, subst, arith}
 use Rattle.std.specs.Prelude.{IfSome}
 use Rattle.std.specs.List.{filter_map, last_or}
 use Rattle.std.proofs.lemmas.List.Elements.{All-weaker}
@@ -10,13 +10,11 @@ use Rattle.paxos_base.specs.declared.durable.Delta.{Delta}
 use Rattle.paxos_base.specs.declared.durable.Delta.TheVariants.{Tried as TriedDelta, Promised as PromisedDelta, Voted as VotedDelta, Base as BaseDelta}
 use Rattle.paxos_base.specs.declared.durable.Durable.{Durable}
 use Rattle.paxos_base.specs.declared.entry.Vote.{Vote}
-use Rattle.paxos_base.specs.declared.rows.JobRow.{JobRow}
-use Rattle.launch_machine.proofs.MachineLemmas.{fresh_stand}
 use Rattle.step_spec.specs.Coherent.{AreUpTo}
 use Rattle.step_spec.specs.State.{promised_in}
 use Rattle.store_format.specs.declared.body.Record.{Record}
 use Rattle.store_format.specs.declared.body.Record.TheVariants.{Tried, Promised, Voted, Base, Row}
-use Rattle.store_format.specs.Area.{Stands, StandFor, fresh_kept}
+use Rattle.store_format.specs.Area.{StandFor}
 use Rattle.store_format.specs.Order.{IsChangeLog, IsKeptSound, IsWithinPromise, delta_record, own_round}
 use Rattle.store_format.specs.Records.{AreRecords, tried_in}
 use Rattle.store_format.proofs.LogLemmas.{IsChangeLog-empty, IsChangeLog-uncons}

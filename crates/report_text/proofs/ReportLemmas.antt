@@ -2,7 +2,6 @@
 use Rattle.std.proofs.Common.{◌≡◌, ℕ, List, [], ◌∷◌, ◌++◌, map, length, ap, ◌∙◌, append_assoc, refl, sym, subst, Result}
 use Rattle.std.specs.Prelude.{codes, IsErrAnd}
 use Rattle.std.specs.List.{range_with_len}
-use Rattle.std.proofs.lemmas.Grind.{flat_map-append}
 use Rattle.cron_io.specs.Views.{SinkView}
 use Rattle.due_set.specs.Table.{Table}
 use Rattle.cluster_sched.specs.declared.row.SchedRow.{SchedRow}

@@ -16,12 +16,11 @@ use Rattle.history.specs.declared.turn.Cause.{Cause}
 use Rattle.history.specs.declared.turn.Cause.TheVariants.{Campaign, Tick, Hear, Answer}
 use Rattle.history.specs.declared.turn.Turn.{Turn}
 use Rattle.script_semantics.specs.Round.{clock_reading, round_tasks}
-use Rattle.script_semantics.specs.Settling.{Drains, DrainsIn, IsQuiet, Settles, campaign_tasks, coordinator, restart_tasks}
+use Rattle.script_semantics.specs.Settling.{Drains, DrainsIn, Settles, campaign_tasks, coordinator, restart_tasks}
 use Rattle.script_semantics.specs.Situation.{AreTurnsFor, IsTurnFor, Performs, Situation, Task, Arrive, Do, Restart, Stop, after_turn, after_turns}
 use Rattle.script_semantics.proofs.RoundLemmas.{is_step, reading}
 use Rattle.launch_safety.specs.Readings.{AreTurnsBy, IsTurnBy, ReadsBy}
 use Rattle.due_set.proofs.Rising.{Contains-head as in_first, Contains-tail as in_rest, Contains-cases as cons_cases}
-use Rattle.script_semantics.proofs.WalkLemmas.{drained_in as quiet_in}
 
 -- ---- tasks
 

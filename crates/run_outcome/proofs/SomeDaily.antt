@@ -7,9 +7,9 @@ use Rattle.std.proofs.lemmas.List.Elements.{All-cons, All-nil}
 use Rattle.jiff.specs.Types.{TimeZone}
 use Rattle.zone_minutes.specs.Civil.{day_number}
 use Rattle.zone_minutes.specs.Window.{IsInWindow}
-use Rattle.zone_minutes.specs.Zone.{FixedOffset, IsReadAs, IsReadable, Zone, local_of}
+use Rattle.zone_minutes.specs.Zone.{FixedOffset, IsReadAs, Zone, local_of}
 use Rattle.zone_minutes.specs.declared.minute.Window.{Window}
-use Rattle.zone_minutes.proofs.ZoneLemmas.{IsReadable-fixed, local_of-fixed}
+use Rattle.zone_minutes.proofs.ZoneLemmas.{local_of-fixed}
 use Rattle.due_set.specs.Anacron.{IsJobOpen, MayOpenOn}
 use Rattle.due_set.specs.Calls.{IsOnTime}
 use Rattle.due_set.specs.Table.{IsBuiltFor, IsJobIn, IsSound, Job, Table, utc_over}

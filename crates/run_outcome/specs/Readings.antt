@@ -1,12 +1,8 @@
 -- What the clocks read in some turns, and which of them are a script's; and grace that lasts as long as the window.
-use Rattle.std.specs.Prelude.{ℕ, ⊤, List, Some, ℤ, pos, ◌+ℤ◌, ◌≤ℤ◌, All}
+use Rattle.std.specs.Prelude.{ℕ, List, ℤ, pos, ◌+ℤ◌, ◌≤ℤ◌}
 use Rattle.due_set.specs.Table.{Table}
 use Rattle.script_text.specs.declared.command.Command.{Command}
 use Rattle.history.specs.Book.{Row}
-use Rattle.history.specs.declared.turn.Cause.{Cause}
-use Rattle.history.specs.declared.turn.Cause.TheVariants.{Tick}
-use Rattle.history.specs.declared.turn.Turn.{Turn}
-use Rattle.history.specs.declared.turn.Turn.TheVariants.{Did, Stopped}
 use Rattle.script_semantics.specs.Script.{Obeys}
 use Rattle.script_semantics.specs.Situation.{Situation}
 

@@ -1,8 +1,6 @@
 -- Lists cut at the first element of a kind.
-use Rattle.std.proofs.Common.{◌≡◌, ◌≢◌, ℕ, ◌<◌, List, [], ◌∷◌, ◌++◌, length, get_or, refl, subst}
+use Rattle.std.proofs.Common.{◌≡◌, ℕ, List, [], ◌∷◌, ◌++◌, refl, subst}
 use Rattle.std.specs.List.{AllByRecursion}
-use Rattle.std.proofs.lemmas.List.Elements.{All-from_get_or, recursion_from_All}
-use Rattle.crontab_text.proofs.ListLemmas.{LacksAny-from_get_or}
 
 -- the text begins with a byte of the kind
 abbrev pub BeginsWith : (ℕ → Type 0) → List ℕ → Type 0

@@ -6,7 +6,7 @@ use Rattle.std.proofs.lemmas.List.Elements.{Contains-get_or}
 use Rattle.std.proofs.lemmas.List.Kept.{AllPairs-cons, AllPairs-filter}
 use Rattle.std.proofs.lemmas.Option.{slice_get_cases, slice_get_within}
 use Rattle.due_set.proofs.Rising.{Contains-head, Contains-tail, Contains-cases, Contains-none}
-use Rattle.history.specs.Book.{PostedLetter, with_fact}
+use Rattle.history.specs.Book.{PostedLetter}
 use Rattle.history.specs.Legal.{IsLate}
 use Rattle.script_semantics.specs.Commands.{arrival_tasks, each_once, from_one, from_others, has_number, is_from}
 use Rattle.script_semantics.specs.Situation.{Situation, Arrive}

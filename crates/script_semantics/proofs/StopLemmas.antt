@@ -4,7 +4,7 @@ use Rattle.std.proofs.lemmas.Bool.{eq-eqb, ne_eqb}
 use Rattle.paxos_base.specs.declared.durable.Delta.{Delta}
 use Rattle.save_calls.specs.Save.{bases_after, calls_of_delta, is_kept}
 use Rattle.step_spec.specs.Folds.{deltas_of}
-use Rattle.history.specs.Book.{Row, acts_at, with_fact}
+use Rattle.history.specs.Book.{Row, acts_at}
 use Rattle.history.specs.declared.turn.CallRow.{CallRow}
 use Rattle.history.specs.declared.turn.Cause.{Cause}
 use Rattle.history.specs.declared.turn.Turn.{Turn}

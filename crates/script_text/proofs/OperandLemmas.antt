@@ -1,8 +1,7 @@
 -- What stands behind the word of a command: numbers, stamps and fates have no space.
 use Rattle.std.proofs.Common.{◌≡◌, ◌≢◌, ℕ, suc, ◌+◌, ◌<◌, ◌≤◌, ◌^◌, List, ◌∷◌, ◌++◌, get_or, ap, ◌∙◌, sym, arith, rules, decimal, ℤ, pos, negsuc}
 use Rattle.std.specs.Fmt.{signed_decimal}
-use Rattle.std.specs.Str.Parse.{AllDigits, digits_value}
-use Rattle.std.proofs.lemmas.Str.Parse.{IsNumeralModel, numerals_by_value, tells_digits, not_in_digits}
+use Rattle.std.proofs.lemmas.Str.Parse.{not_in_digits}
 use Rattle.std.proofs.lemmas.Fmt.{digits_decimal, decimal_nonempty, decimal_injective}
 use Rattle.std.proofs.lemmas.Int.{ints}
 use Rattle.zone_minutes.specs.Stamp.{stamp_text}

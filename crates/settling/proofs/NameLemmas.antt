@@ -1,8 +1,6 @@
 -- The answer to a call has its name.
-use Rattle.std.proofs.Common.{◌≡◌, true, Option, None, Some, List, [], ◌∷◌, refl, sym, ap, ◌∙◌, inl, inr, subst}
-use Rattle.std.specs.Ordering.{int_eq}
-use Rattle.std.proofs.lemmas.Bool.{and_parts, cases_Bool, eqb-true}
-use Rattle.std.proofs.lemmas.Bool.Decides.{Decides-int_eq}
+use Rattle.std.proofs.Common.{◌≡◌, Option, None, Some, List, [], ◌∷◌, refl, sym, ap, ◌∙◌, inl, inr, subst}
+use Rattle.std.proofs.lemmas.Bool.{cases_Bool}
 use Rattle.cluster_sched.specs.Fates.{call}
 use Rattle.cluster_sched.specs.declared.fate.Fate.TheVariants as fate
 use Rattle.cluster_sched.specs.declared.row.Name.{Name}

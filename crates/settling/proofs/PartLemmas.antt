@@ -1,7 +1,6 @@
 -- What one replica does in a round: it takes an answer, hears its mail, and its clock ticks.
 use Rattle.std.proofs.Common.{◌≡◌, ℕ, Option, None, Some, IfSome, List, [], ◌∷◌, ◌++◌, length, drop, ℤ, refl, sym, ap, ◌∙◌, subst}
 use Rattle.std.specs.List.{AllZip}
-use Rattle.std.proofs.lemmas.Bool.{eq-eqb}
 use Rattle.cluster_sched.specs.declared.fate.Fate.{Fate}
 use Rattle.cluster_sched.specs.declared.fate.Fate.TheVariants as fate
 use Rattle.cluster_sched.specs.declared.row.SchedRow.{SchedRow}
@@ -12,7 +11,7 @@ use Rattle.step_spec.specs.Folds.{calls_of}
 use Rattle.step_spec.specs.Step.{Event, Plan, step}
 use Rattle.step_spec.specs.Step as told
 use Rattle.agreement.specs.Transition.{identity_of}
-use Rattle.history.specs.Book.{PostedLetter, Row, after_row, answer_to, with_fact}
+use Rattle.history.specs.Book.{PostedLetter, Row, after_row, answer_to}
 use Rattle.history.specs.Legal.{MayFollow, TakesTurn}
 use Rattle.history.specs.declared.turn.CallRow.{CallRow}
 use Rattle.history.specs.declared.turn.Cause.{Cause}

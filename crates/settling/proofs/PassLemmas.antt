@@ -6,10 +6,9 @@ use Rattle.std.proofs.lemmas.List.Elements.{Contains-append_left, Contains-appen
 use Rattle.cluster_sched.specs.declared.fate.Fate.TheVariants as fate
 use Rattle.due_set.specs.Table.{Table}
 use Rattle.step_spec.specs.Folds.{sent_to}
-use Rattle.step_spec.specs.State.{Identity}
 use Rattle.step_spec.specs.Step.{Event}
 use Rattle.agreement.specs.Transition.{identity_of}
-use Rattle.history.specs.Book.{PostedLetter, Row, after_row, answer_to, post, with_fact}
+use Rattle.history.specs.Book.{PostedLetter, Row, after_row, answer_to, post}
 use Rattle.history.specs.Legal.{MayFollow}
 use Rattle.history.specs.declared.turn.CallRow.{CallRow}
 use Rattle.history.specs.declared.turn.Cause.{Cause}

@@ -1,6 +1,5 @@
 -- Turns of a replica that stops, and that starts again.
 use Rattle.std.proofs.Common.{◌≡◌, ◌⊎◌, ℕ, ◌<◌, Bool, true, false, List, [], ◌∷◌, ◌++◌, Option, None, Some, refl, sym, ap, ◌∙◌, subst, inl, inr, append-nil as append_nil}
-use Rattle.std.proofs.lemmas.Bool.{eq-eqb}
 use Rattle.due_set.specs.Table.{Table}
 use Rattle.launch_machine.specs.Clerk.{first_rows}
 use Rattle.paxos_base.specs.declared.durable.Delta.{Delta}
@@ -11,7 +10,7 @@ use Rattle.step_spec.specs.Step.{Event, step}
 use Rattle.step_spec.specs.Step as heard
 use Rattle.step_spec.specs.declared.out.OutLetter.{OutLetter}
 use Rattle.agreement.specs.Transition.{identity_of}
-use Rattle.history.specs.Book.{Row, Standing, acts_at, after_row, durable_after, kept_at, standing_after, vote_of_delta, with_fact}
+use Rattle.history.specs.Book.{Row, Standing, acts_at, after_row, durable_after, kept_at, standing_after, vote_of_delta}
 use Rattle.history.specs.declared.turn.Cause.{Cause}
 use Rattle.history.specs.declared.turn.Turn.{Turn}
 use Rattle.history.specs.declared.turn.Turn.TheVariants.{Stopped, Restarted}

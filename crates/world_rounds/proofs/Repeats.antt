@@ -7,9 +7,7 @@ use Rattle.std.proofs.lemmas.Bool.{cases_Bool, eqb-true, ne_eqb}
 use Rattle.std.proofs.lemmas.List.Elements.{Contains-append_cases, filter-append}
 use Rattle.history.specs.Book.{PostedLetter}
 use Rattle.script_semantics.specs.Commands.{each_once, from_one, has_number, is_from}
-use Rattle.step_spec.proofs.Lists.{nothing_in}
 use Rattle.step_spec.proofs.ListLemmas.{from_filter}
-use Rattle.due_set.proofs.Rising.{Contains-head as in_first, Contains-tail as in_rest, Contains-cases as cons_cases}
 use Rattle.script_semantics.proofs.MailLemmas.{from_each_once}
 
 -- ---- each number once

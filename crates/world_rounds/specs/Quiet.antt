@@ -1,9 +1,7 @@
 -- What a world in which all run tells of who has nothing left to do.
-use Rattle.std.specs.Prelude.{◌≡◌, ◌↔◌, ℕ, true, List, IsTrue, Bool, Some, ⊤, slice_get}
+use Rattle.std.specs.Prelude.{◌≡◌, ◌↔◌, ℕ, true, List, IsTrue, Bool, Some, slice_get}
 use Rattle.disk_model.specs.View.{DiskView}
 use Rattle.due_set.specs.Table.{Table}
-use Rattle.term_core.specs.declared.term.Term.{Term}
-use Rattle.term_core.specs.declared.term.Term.TheVariants.{Follower}
 use Rattle.history.specs.Book.{Row}
 use Rattle.script_semantics.specs.Situation.{Situation}
 use Rattle.world_rounds.specs.World.{IsWorldAt}

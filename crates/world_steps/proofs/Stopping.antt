@@ -1,5 +1,5 @@
 -- A step on a disk that is armed: what comes of a stop.
-use Rattle.std.proofs.Common.{◌≡◌, ℕ, ◌+◌, ◌<◌, ◌≤◌, Bool, true, false, List, [], ◌∷◌, ◌++◌, Option, None, Some, Result, refl, sym, ap, ◌∙◌, subst, ◌⊎◌, inl, inr, arith}
+use Rattle.std.proofs.Common.{◌≡◌, ℕ, ◌+◌, ◌<◌, Bool, true, false, List, [], ◌∷◌, ◌++◌, Option, None, Some, Result, refl, sym, ap, ◌∙◌, subst, ◌⊎◌, inl, inr, arith}
 use Rattle.std.specs.Prelude.{IsErrOf, IsSome, IsSomeAnd, IsTrue, is_some}
 use Rattle.std.specs.Option.{option_to_list}
 use Rattle.std.proofs.lemmas.Bool.{cases_Bool}
@@ -10,8 +10,7 @@ use Rattle.due_set.specs.Table.{Table}
 use Rattle.paxos_base.specs.declared.durable.Delta.{Delta}
 use Rattle.paxos_base.specs.declared.durable.Durable.{Durable}
 use Rattle.save_calls.specs.Save.{is_kept}
-use Rattle.durable_changes.specs.Anew.{ProposesAnew}
-use Rattle.step_spec.specs.State.{State, started}
+use Rattle.step_spec.specs.State.{started}
 use Rattle.agreement.specs.Transition.{identity_of}
 use Rattle.history.specs.Book.{Row}
 use Rattle.history.specs.Legal.{MayFollow}

@@ -12,7 +12,7 @@ use Rattle.jiff_core.specs.declared.Offset.{Offset}
 use Rattle.jiff_core.specs.Timestamp.{nanos_of_seconds}
 use Rattle.jiff_tz.specs.PosixRule.{in_window, utc_window, ordered, dst_at_by, match_some, next_by, transition_of}
 use Rattle.jiff_tz.specs.PosixRule as Rule
-use Rattle.jiff_tz.specs.Tzif.{count_at, floor_second, transition_at, type_after, rule_after, no_transition}
+use Rattle.jiff_tz.specs.Tzif.{count_at, floor_second, transition_at, type_after, no_transition}
 use Rattle.jiff_tz.specs.Tzif as Table
 use Rattle.jiff_tz.specs.declared.info.OffsetInfo.{OffsetInfo}
 use Rattle.jiff_tz.specs.declared.tzif.transition.Transition.{Transition}

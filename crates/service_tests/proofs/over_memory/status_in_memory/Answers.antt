@@ -1,4 +1,4 @@
-use Rattle.std.proofs.Common.{ap, ◌∙◌, arith, Some}
+use Rattle.std.proofs.Common.{ap, ◌∙◌, Some}
 use Rattle.cron_io.specs.Memory.{room_unless}
 use Rattle.cron_serve.specs.Input.{IsRefusedInput}
 use Rattle.cron_serve.specs.Words.{texts_of}

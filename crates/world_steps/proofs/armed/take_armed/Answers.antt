@@ -1,14 +1,10 @@
-use Rattle.std.proofs.Common.{◌≡◌, ℕ, [], Result, Err, ◌<◌, ◌≤◌, length, refl, sym, ap, ◌∙◌, subst, arith, ◌^◌, None, Some, Option}
+use Rattle.std.proofs.Common.{◌≡◌, ℕ, [], Err, ◌<◌, ◌≤◌, length, refl, sym, ap, ◌∙◌, subst, arith, ◌^◌, None, Some}
 use Rattle.std.specs.Prelude.{IsErrOf}
 use Rattle.world_steps.proofs.AnewLemmas.{anew_at}
-use Rattle.paxos_base.specs.declared.durable.Delta.{Delta}
-use Rattle.paxos_base.specs.declared.durable.Durable.{Durable}
 use Rattle.replica_core.specs.Replica.{IsSmall, ReplicaState}
 use Rattle.durable_changes.specs.Anew.{ProposesAnew}
 use Rattle.replica_core.specs.Commit.{kept_after}
 use Rattle.replica_core.specs.Step.{IsSameReplica, Steps, fault_in}
-use Rattle.replica_core.specs.declared.out.StepOut.{StepOut}
-use Rattle.replica_node.specs.declared.fault.NodeFault.{NodeFault}
 use Rattle.replica_node.specs.declared.fault.NodeFault.TheVariants.{Stopped}
 use Rattle.replica_node.specs.Kept.{IsAnsweredByArm, KeepsChange, LeavesByArm, area_for}
 use Rattle.replica_node.proofs.ReliableLemmas.{reliable_unfailing}

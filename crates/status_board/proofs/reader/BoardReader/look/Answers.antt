@@ -4,7 +4,6 @@ use Rattle.logbook.specs.Pages.{Book}
 use Rattle.status_board.specs.declared.shown.Shown.{Shown}
 use Rattle.status_board.specs.Naming.{board_name_of}
 use Rattle.status_board.specs.Posted.{Posted}
-use Rattle.status_board.specs.Shown.{IsHistory}
 use Rattle.status_board.specs.Sight.{Sight}
 use Rattle.status_board.proofs.NamingLemmas.{lets_in, named_board}
 use Rattle.status_board.proofs.ReaderLemmas.{AreFronts, front_history, mine_first}

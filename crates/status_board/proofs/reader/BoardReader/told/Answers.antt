@@ -1,4 +1,4 @@
-use Rattle.std.proofs.Common.{◌≡◌, ◌≤◌, List, Some, length, ap, sym, ◌∙◌, subst, arith}
+use Rattle.std.proofs.Common.{◌≡◌, ◌≤◌, List, Some, ap, sym, ◌∙◌, subst, arith}
 use Rattle.logbook.specs.Pages.{Book}
 use Rattle.status_board.specs.declared.shown.Shown.{Shown}
 use Rattle.status_board.specs.Naming.{board_name_of}

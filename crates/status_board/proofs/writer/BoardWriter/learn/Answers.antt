@@ -1,6 +1,5 @@
-use Rattle.std.proofs.Common.{◌≡◌, ℕ, ◌∷◌, ◌++◌, [], refl, ap, ◌∙◌}
+use Rattle.std.proofs.Common.{ℕ, ◌∷◌, ◌++◌, [], refl, ap, ◌∙◌}
 use Rattle.status_board.specs.Shown.{shown_state_of}
-use Rattle.status_board.specs.Writing.{HasNext, Learns}
 use Rattle.status_board.proofs.writer.BoardWriter.learn.Goals as goal
 
 pub returns-clause-learned : goal.returns-clause-learned
