@@ -28,7 +28,7 @@ use Rattle.cron_io.specs.Lines.{text_of_lines}
 use Rattle.run_text.specs.Follow.{style_of}
 use Rattle.run_text.specs.Run.{Run, Section}
 use Rattle.due_list.specs.CheckText.{AreAnacrontabFaults, AreCrontabFaults, AreFaultsBy, AreFaultsOf, IsCheckText, anacrontab_fault, check_lines, crontab_fault, numbers_from}
-use Rattle.due_list.specs.DueText.{AreEntryLines, AreLinesBy, AreLinesOfJob, AreLinesOfJobs, HasLine, IsDueText, anacron_line, due_line, due_lines, due_job_line, local_text}
+use Rattle.due_list.specs.DueText.{AreEntryLines, AreLinesBy, AreLinesOfJob, AreLinesOfJobs, IsDueText, anacron_line, due_line, due_lines, due_job_line, local_text}
 use Rattle.due_list.specs.declared.fault.TableFault.{TableFault}
 use Rattle.due_list.proofs.ListLemmas.{Contains-parts, cut_at, same_zip, some_zip, zip_member}
 
@@ -127,7 +127,8 @@ among_job table number at lines due are =
     let local : local_of are.zone at ≡ local_of due.zone at = same_local table number are.job due.job are.zone due.zone are.is_in due.is_in at in
     subst (λ line. Contains lines line) (same_line table number are.zone due.zone at local) (among_kind table number at are.job are.zone lines due are.job.kind kind are.are)
 
-pub has_due_line : (table : Table) (text : List ℕ) (number : ℕ) (at : ℤ) → IsDueText table text → (due : IsJobDue table number at) → HasLine text (due_line table number due.zone at)
+pub has_due_line : (table : Table) (text : List ℕ) (number : ℕ) (at : ℤ) → IsDueText table text → (due : IsJobDue table number at)
+    → (front back : List (List ℕ)) × (text ≡ text_of_lines (front ++ due_line table number due.zone at ∷ back))
 has_due_line table text number at is due =
     let below : number < length table.jobs = slice_get_within table.jobs number due.job due.is_in.is_job in
     let zero_plus : 0 + number ≡ number = omega arith in
@@ -138,7 +139,7 @@ has_due_line table text number at is due =
     let inside : Contains all line = Contains-parts is.parts part.0 line part.1 (among_job table number at part.0 due part.2) in
     let lines : Contains (due_lines is.parts) line = Contains-tail (codes "cron due 1") (all ++ codes "end" ∷ []) line (Contains-append_left all (codes "end" ∷ []) line inside) in
     let cut = cut_at (due_lines is.parts) line lines in
-    record { front = cut.0; back = cut.1; text_is = is.text_is ∙ ap text_of_lines cut.2 }
+    (cut.0, cut.1, is.text_is ∙ ap text_of_lines cut.2)
 
 some_crontab : (style : Style) (owner : List ℕ) (first : ℕ) (lines : List (List ℕ)) → (faults : List TableFault) × AreCrontabFaults style owner first lines faults
 some_crontab style owner first lines =

@@ -58,9 +58,3 @@ pub record IsDueText (table : Table) (text : List ℕ) : Type 0 where
   pub parts : List (List (List ℕ))
   pub are : AreLinesOfJobs table (range_with_len 0 (length table.jobs)) parts
   pub text_is : text ≡ text_of_lines (due_lines parts)
-
--- the line stands in the text
-pub record HasLine (text line : List ℕ) : Type 0 where
-  pub front : List (List ℕ)
-  pub back : List (List ℕ)
-  pub text_is : text ≡ text_of_lines (front ++ line ∷ back)

@@ -1,10 +1,11 @@
 //! Laws of due lists and of checks. Each is the contract of a function that does nothing.
-ghost use Rattle.std.specs.Prelude.{◌≡◌, ℕ, ℤ, List, []};
+ghost use Rattle.std.specs.Prelude.{◌≡◌, ◌∷◌, ◌++◌, ℕ, ℤ, List, []};
+ghost use Rattle.cron_io.specs.Lines.{text_of_lines};
 ghost use Rattle.due_set.specs.Table.{Table, IsJobDue, IsSound};
 ghost use Rattle.run_text.specs.Reading.{IsFrameText, IsRunText};
 ghost use Rattle.run_text.specs.Run.{Run};
 ghost use Rattle.due_list.specs.CheckText.{AreFaultsIn, IsCheckText};
-ghost use Rattle.due_list.specs.DueText.{HasLine, IsDueText, due_line};
+ghost use Rattle.due_list.specs.DueText.{IsDueText, due_line};
 
 /// Each table has one due list.
 pub fn a_table_has_one_due_list()
@@ -15,7 +16,7 @@ pub fn a_table_has_one_due_list()
 /// The due list of a table has a line for each due instant of each job, with what the clock of the job's zone shows then.
 pub fn a_due_list_has_each_due_instant()
     ensures { (table : Table) (text : List ℕ) (job : ℕ) (instant : ℤ) → IsDueText table text → (due : IsJobDue table job instant)
-        → HasLine text (due_line table job due.zone instant) }
+        → (front back : List (List ℕ)) × (text ≡ text_of_lines (front ++ due_line table job due.zone instant ∷ back)) }
 {}
 
 /// Each frame has one check.

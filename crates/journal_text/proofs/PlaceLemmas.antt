@@ -15,7 +15,7 @@ use Rattle.script_semantics.specs.Settling.{Walks}
 use Rattle.script_semantics.specs.Situation.{Situation, first_situation}
 use Rattle.world_law.specs.Book.{BookState, StandsBehind}
 use Rattle.journal_text.specs.Journal.{end_of, numbered_turns, part_turns}
-use Rattle.journal_text.specs.Starts.{HasPart, part_rows}
+use Rattle.journal_text.specs.Starts.{part_rows}
 use Rattle.script_semantics.specs.Starts.{BeginAt}
 use Rattle.journal_text.proofs.Determined.{parts_alike}
 use Rattle.journal_text.proofs.PartLemmas.{ends_behind}
@@ -55,11 +55,18 @@ last_part members table (given ∷ script) (suc place) command situation rows af
 
 -- ---- the rows of a place
 
+-- the rows of a place are such a part, and those in front of them the parts of some commands, at whose end it begins
+abbrev pub HasPart : (members : ℕ) → Table → (ahead : List Command) → List Row → (starts : List ℕ) → (place : ℕ)
+    → (part : Situation → List Row → Situation → Type 0) → Type 0
+HasPart members table ahead rows starts place part =
+    (before after : Situation) × ArePartsOf members table ahead (first_situation members table) (take (get_or starts place 0) rows) before
+    × part before (part_rows rows starts place) after
+
 -- what is behind the parts of the commands before a place, up to where the place ends, is in the rows of the place
 part_at : (members : ℕ) (table : Table) (script : List Command) (rows : List Row) (starts : List ℕ) (place : ℕ) (part : Situation → List Row → Situation → Type 0)
     (after : Situation) → BeginAt members table script rows starts → place < length starts
     → Then (ArePartsOf members table (take place script)) part (first_situation members table) (take (end_of starts (length rows) place) rows) after
-    → HasPart members table script rows starts place part
+    → HasPart members table (take place script) rows starts place part
 part_at members table script rows starts place part after begin within split =
     let (before, ahead) = begin.before place within in
     let start = first_situation members table in
@@ -78,16 +85,11 @@ part_at members table script rows starts place part after begin within split =
     let back : split.back ≡ part_rows rows starts place =
     sym (drop-append_seam split.front split.back) ∙ ap (λ k. drop k (split.front ++ split.back)) size ∙ ap (drop n) (sym split.parts)
     ∙ ap (λ k. drop n (take k rows)) sum ∙ drop-take n (m - n) rows in
-    record {
-      before = before;
-      after = after;
-      front = ahead;
-      here = subst (λ (l : List Row). part before l after) back (subst (λ (s : Situation). part s split.back after) (sym ends.same) split.two);
-    }
+    (before, after, ahead, subst (λ (l : List Row). part before l after) back (subst (λ (s : Situation). part s split.back after) (sym ends.same) split.two))
 
 -- **The rows of a command's place are its part.**
 pub command_part : (members : ℕ) (table : Table) (script : List Command) (rows : List Row) (starts : List ℕ) (place : ℕ) (command : Command)
-    → BeginAt members table script rows starts → slice_get script place ≡ Some command → HasPart members table script rows starts place (IsPartOf members table command)
+    → BeginAt members table script rows starts → slice_get script place ≡ Some command → HasPart members table (take place script) rows starts place (IsPartOf members table command)
 command_part members table script rows starts place command begin is =
     let less = slice_get_within script place command is in
     let count = begin.count in
@@ -106,10 +108,11 @@ walk_part members table script rows starts begin =
     let count = begin.count in
     let walks = Walks members table (table.window.until.0 -ℤ pos 1) in
     let end : end_of starts (length rows) (length script) ≡ length rows = get_or_past starts (suc (length script)) (length rows) (omega arith) in
-    part_at members table script rows starts (length script) walks begin.obeys.after begin (omega arith)
+    subst (λ (l : List Command). HasPart members table l rows starts (length script) walks) (take-length script)
+    (part_at members table script rows starts (length script) walks begin.obeys.after begin (omega arith)
     (subst (λ (l : List Row). Then (ArePartsOf members table (take (length script) script)) walks (first_situation members table) l begin.obeys.after)
     (sym (ap (λ k. take k rows) end ∙ take-length rows))
-    (subst (λ (l : List Command). Then (ArePartsOf members table l) walks (first_situation members table) rows begin.obeys.after) (sym (take-length script)) all))
+    (subst (λ (l : List Command). Then (ArePartsOf members table l) walks (first_situation members table) rows begin.obeys.after) (sym (take-length script)) all)))
 
 -- **They are what a journal tells there.**
 pub told_part : (table : Table) (book : BookState) (rows : List Row) (starts : List ℕ) (place : ℕ) → StandsBehind table rows book

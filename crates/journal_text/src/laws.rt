@@ -1,5 +1,5 @@
 //! Laws of journals and summaries. Each is the contract of a function that does nothing.
-ghost use Rattle.std.specs.Prelude.{◌≡◌, ◌≤◌, ◌+◌, ℕ, All, List, None, Some, get_or, length, map, pos, slice_get, ◌-ℤ◌};
+ghost use Rattle.std.specs.Prelude.{◌≡◌, ◌≤◌, ◌+◌, ℕ, All, List, None, Some, get_or, length, map, pos, slice_get, take, ◌-ℤ◌};
 ghost use Rattle.std.specs.List.{enumerate_from, flat_map, range_with_len};
 ghost use Rattle.due_set.specs.Table.{Table};
 ghost use Rattle.zone_minutes.specs.Window.{IsWithinLimits};
@@ -8,11 +8,12 @@ ghost use Rattle.paxos_base.specs.declared.entry.Kind.TheVariants.{Launch, Void}
 ghost use Rattle.script_text.specs.declared.command.Command.{Command};
 ghost use Rattle.history.specs.Book.{Row, Standing};
 ghost use Rattle.history.specs.declared.turn.Turn.{Turn};
-ghost use Rattle.script_semantics.specs.Script.{IsPartOf, Obeys};
+ghost use Rattle.script_semantics.specs.Script.{ArePartsOf, IsPartOf, Obeys};
 ghost use Rattle.script_semantics.specs.Settling.{Walks};
+ghost use Rattle.script_semantics.specs.Situation.{Situation, first_situation};
 ghost use Rattle.world_law.specs.Book.{BookState, StandsBehind};
 ghost use Rattle.journal_text.specs.Journal.{journal_text, part_turns, turn_line, turn_words};
-ghost use Rattle.journal_text.specs.Starts.{HasPart, IsBookJournal, part_rows};
+ghost use Rattle.journal_text.specs.Starts.{IsBookJournal, part_rows};
 ghost use Rattle.script_semantics.specs.Starts.{AreStarts, BeginAt};
 ghost use Rattle.history.specs.Legal.{IsLegal, MayFollow};
 ghost use Rattle.journal_text.specs.Summary.{IsBookSummary, summary_text, total_of};
@@ -35,15 +36,19 @@ pub fn a_script_begins_its_parts_once()
         → BeginAt members table script rows starts → AreStarts (length rows) starts }
 {}
 
-/// The turns between a command's start and the next one are that command's, from where the commands before it end. Those
+/// The turns between a command's start and the next one are that command's, from where the parts of the commands before it end. Those
 /// from the last start on are the walk's to the window's last minute. They are what a journal tells there.
 pub fn a_part_has_its_commands_turns()
     ensures commands { (members : ℕ) (table : Table) (script : List Command) (rows : List Row) (starts : List ℕ) (place : ℕ)
         (command : Command) → BeginAt members table script rows starts → slice_get script place ≡ Some command
-        → HasPart members table script rows starts place (IsPartOf members table command) }
+        → (before after : Situation)
+        × ArePartsOf members table (take place script) (first_situation members table) (take (get_or starts place 0) rows) before
+        × IsPartOf members table command before (part_rows rows starts place) after }
     ensures walk { (members : ℕ) (table : Table) (script : List Command) (rows : List Row) (starts : List ℕ)
         → BeginAt members table script rows starts
-        → HasPart members table script rows starts (length script) (Walks members table (table.window.until.0 -ℤ pos 1)) }
+        → (before after : Situation)
+        × ArePartsOf members table script (first_situation members table) (take (get_or starts (length script) 0) rows) before
+        × Walks members table (table.window.until.0 -ℤ pos 1) before (part_rows rows starts (length script)) after }
     ensures told { (table : Table) (book : BookState) (rows : List Row) (starts : List ℕ) (place : ℕ)
         → StandsBehind table rows book → part_turns book.turns starts place
         ≡ enumerate_from (get_or starts place 0) (map (λ (row : Row). row.turn) (part_rows rows starts place)) }

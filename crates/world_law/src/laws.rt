@@ -23,9 +23,10 @@ ghost use Rattle.replica_core.specs.declared.input.Input.{Input};
 ghost use Rattle.replica_core.specs.declared.input.Input.TheVariants.{Tick};
 ghost use Rattle.replica_core.specs.declared.out.StepOut.{StepOut};
 ghost use Rattle.turn_book.specs.Rows.{HasLawful};
-ghost use Rattle.world_law.specs.Book.{BookState, HasRoom, IsRowOf, MayTickFor, StandsBehind, call_of, standing_behind};
+ghost use Rattle.world_law.specs.Book.{BookState, HasRoom, IsRowOf, MayTickFor, StandsBehind, call_of, posting_turns, standing_behind};
 ghost use Rattle.world_law.specs.Replicas.{IsInputOf, IsRestartOf, IsStopOf, IsTurnOf, StandsAt, StandsStopped};
 ghost use Rattle.world_law.specs.Rows.{HasRows, MayComeNext};
+ghost use Rattle.world_law.specs.declared.letter.LetterRow.{LetterRow};
 ghost use Rattle.world_law.specs.declared.row.BookRow.{BookRow};
 
 /// A book settles what it does not keep: whichever rows stand behind it, the votes and the learned entries in them are the same, and
@@ -39,6 +40,12 @@ pub fn a_book_settles_what_it_does_not_keep()
         → standing_behind table rows book ≡ standing_behind table other book }
     ensures instead { (table : Table) (rows other : List Row) (book : BookState) → StandsBehind table rows book → IsLegal book.members table other
         → book.turns ≡ map (λ (row : Row). row.turn) other → StandsBehind table other book }
+{}
+
+/// A book tells of each letter which turn has posted it, by the turn's number.
+pub fn a_book_tells_which_turn_posted_a_letter()
+    ensures { (table : Table) (rows : List Row) (book : BookState) → StandsBehind table rows book
+        → map (λ (letter : LetterRow). letter.turn) book.letters ≡ posting_turns rows }
 {}
 
 /// The rows of a book that threads share have its turns, and a row that may come next after them may come next in the book,
@@ -57,8 +64,8 @@ pub fn a_legal_book_has_lawful_rows()
         → HasLawful (λ before. HasRows table before book) (λ before row. MayComeNext book.members table before row) }
 {}
 
-/// A turn names the seat of the replica that has it, and an arrival alone names none.
-pub fn a_turn_names_the_seat_of_its_replica()
+/// Each turn but an arrival is a replica's, and an arrival is nobody's.
+pub fn an_arrival_alone_is_nobodys_turn()
     ensures none { (turn : Turn) → (turn_of turn ≡ None) ↔ ((number : ℕ) × (turn ≡ Arrived number)) }
 {}
 
