@@ -1,7 +1,7 @@
-mod CountLemmas
+pub mod CountLemmas
 mod FormLemmas
 mod LineLemmas
 mod SpacedLemmas
 mod TurnLemmas
-mod UniqueLine
+pub mod UniqueLine
 mod UniqueTurn

@@ -4,6 +4,7 @@ pub mod PartLemmas
 pub mod SummaryLemmas
 pub mod WordLemmas
 pub mod TurnLemmas
+pub mod LineLemmas
 pub mod Twins
 pub mod Determined
 pub mod StartLemmas

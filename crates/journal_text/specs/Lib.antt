@@ -1,4 +1,5 @@
 pub mod Journal
+pub mod Line
 pub mod Starts
 pub mod Summary
 pub mod Told

@@ -1,5 +1,5 @@
 //! Laws of journals and summaries. Each is the contract of a function that does nothing.
-ghost use Rattle.std.specs.Prelude.{◌≡◌, ◌≤◌, ◌+◌, ℕ, All, List, None, Some, get_or, length, map, pos, slice_get, take, ◌-ℤ◌};
+ghost use Rattle.std.specs.Prelude.{◌≡◌, ◌≤◌, ◌<◌, ◌+◌, ◌^◌, ℕ, suc, All, List, None, Some, get_or, length, map, pos, slice_get, take, ◌-ℤ◌};
 ghost use Rattle.std.specs.List.{enumerate_from, flat_map, range_with_len};
 ghost use Rattle.due_set.specs.Table.{Table};
 ghost use Rattle.zone_minutes.specs.Window.{IsWithinLimits};
@@ -12,7 +12,10 @@ ghost use Rattle.script_semantics.specs.Script.{ArePartsOf, IsPartOf, Obeys};
 ghost use Rattle.script_semantics.specs.Settling.{Walks};
 ghost use Rattle.script_semantics.specs.Situation.{Situation, first_situation};
 ghost use Rattle.world_law.specs.Book.{BookState, StandsBehind};
-ghost use Rattle.journal_text.specs.Journal.{journal_text, part_turns, turn_line, turn_words};
+ghost use Rattle.journal_line.specs.Line.{IsJournalLine};
+ghost use Rattle.journal_line.specs.Told.{ToldLine};
+ghost use Rattle.journal_text.specs.Line.{HasUnblankNames, Tells, told_head};
+ghost use Rattle.journal_text.specs.Journal.{journal_text, part_head, part_turns, turn_line, turn_words};
 ghost use Rattle.journal_text.specs.Starts.{IsBookJournal, part_rows};
 ghost use Rattle.script_semantics.specs.Starts.{AreStarts, BeginAt};
 ghost use Rattle.history.specs.Legal.{IsLegal, MayFollow};
@@ -66,6 +69,22 @@ pub fn two_turns_have_two_lines()
         → map (turn_line table) (enumerate_from 0 (map (λ (row : Row). row.turn) a))
         ≡ map (turn_line table) (enumerate_from 0 (map (λ (row : Row). row.turn) b))
         → map (λ (row : Row). row.turn) a ≡ map (λ (row : Row). row.turn) b }
+{}
+
+/// A turn is told by its line. That of a turn that may come next is a line of a journal's grammar, and what a reader says of it is the
+/// turn's number and the turn; a line that tells both is that line, byte for byte. No job of the table may have a blank in its name.
+/// The line before a part is one of the grammar too, and the only one that tells the part.
+pub fn a_turn_is_told_by_its_line()
+    ensures line { (members number : ℕ) (table : Table) (standing : Standing) (row : Row) → members ≤ 7 → IsWithinLimits table.window
+        → HasUnblankNames table → MayFollow members table standing row.turn row → HasNumbers row.turn → number < 2 ^ 64
+        → (told : ToldLine) × Tells table number row.turn told × IsJournalLine told (turn_line table (number, row.turn)) }
+    ensures read { (members number : ℕ) (table : Table) (standing : Standing) (row : Row) (told : ToldLine) → members ≤ 7
+        → IsWithinLimits table.window → HasUnblankNames table → MayFollow members table standing row.turn row → HasNumbers row.turn
+        → number < 2 ^ 64 → IsJournalLine told (turn_line table (number, row.turn)) → Tells table number row.turn told }
+    ensures written { (table : Table) (number : ℕ) (turn : Turn) (told : ToldLine) (line : List ℕ) → Tells table number turn told
+        → IsJournalLine told line → line ≡ turn_line table (number, turn) }
+    ensures part { (parts place : ℕ) → suc place < 2 ^ 64 → IsJournalLine (told_head parts place) (part_head parts place) }
+    ensures written_part { (parts place : ℕ) (line : List ℕ) → IsJournalLine (told_head parts place) line → line ≡ part_head parts place }
 {}
 
 /// A book whose turns obey a script has one journal, whichever rows stand behind it: the text of its turns, with the parts
