@@ -4,7 +4,8 @@
 //! The counts were worked out by hand. Whole journals of such worlds are those that tools/small_world makes; so are
 //! the turns of scripts that arm disks (`breaks`). A ballot, a promise, three votes, a launch table of a replica's
 //! own and one that was sent each stop within each of the calls that save them, and leave one image or another
-//! (`saves`). Sinks that fail, or have too little room, keep a prefix of the text.
+//! (`saves`). Sinks that fail, or have too little room, keep a prefix of the text. What is seen of a board after each
+//! command `free` was worked out by hand too (`watches`).
 #![tactic(auto)]
 
 #[cfg(test)]
@@ -17,5 +18,7 @@ mod saves;
 mod scripts;
 #[cfg(test)]
 mod walks;
+#[cfg(test)]
+mod watches;
 #[cfg(test)]
 mod worlds;

@@ -1,4 +1,4 @@
-//! The run of a file, the world that has played it, and the texts of its book.
+//! The run of a file, the world that has played it, the texts of its book, and what is seen of a board.
 ghost use Rattle.std.specs.Prelude.{◌≡◌, ◌<◌, ◌≤◌, ◌^◌, IfOk, None, length};
 ghost use Rattle.due_set.specs.Table.{IsSound};
 ghost use Rattle.script_semantics.specs.Starts.{AreStarts};
@@ -10,7 +10,7 @@ use job_table::build_table;
 use journal_text::{write_journal, write_summary};
 use report_text::{ReportFault, write_book_report};
 use run_text::read_run;
-use script_play::play_run;
+use script_play::{Seen, play_run, play_run_watched};
 use std::alloc::Global;
 use std::sync::Wait;
 use std::test::Fail;
@@ -72,6 +72,33 @@ fn play<R: Threads + Wait + Sync>(
         book,
         starts,
     })
+}
+
+/// What is seen of a board after each command `free` of the run of a file.
+pub fn seen_of<R: Threads + Wait + Sync>(
+    rt: &R,
+    alloc: Global,
+    text: &str,
+) -> Result<Vec<Seen>, Fail> {
+    let Ok(run) = read_run(alloc, short(text)?) else {
+        return Err(Fail::from("no run"));
+    };
+    let Ok(table) = build_table(alloc, &run) else {
+        return Err(Fail::from("no table"));
+    };
+    let commands = run.commands.as_slice();
+    let Ok((_world, _starts, seen)) = play_run_watched(
+        rt,
+        alloc,
+        &table,
+        run.members,
+        commands,
+        1,
+        &OpenGate,
+    ) else {
+        return Err(Fail::from("no world"));
+    };
+    Ok(seen)
 }
 
 /// The report of the world that has played the run of a file, rounds in so many lanes.

@@ -9,6 +9,11 @@ pub record IsHour (window : Window) : Type 0 where
   pub from : window.from.0 ≡ pos 28_530_720
   pub until : window.until.0 ≡ pos 28_530_780
 
+-- the four hours from then on
+pub record AreFourHours (window : Window) : Type 0 where
+  pub from : window.from.0 ≡ pos 28_530_720
+  pub until : window.until.0 ≡ pos 28_530_960
+
 -- a world of so many replicas takes each of the commands
 abbrev pub AreTaken : Window → ℕ → List Command → Type 0
 AreTaken window members [] = ⊤

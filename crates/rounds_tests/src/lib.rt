@@ -5,7 +5,8 @@
 //! after its commands (`parts`). That three lanes run at once is tested on disks that wait in each sync for one
 //! another (`meets`). Parts of free turns: a gate brings about both orders of two replicas (`orders`), three
 //! replicas and seven take 200 turns each, one is armed to stop (`after_free`), and threads wait for each other at a
-//! gate and in a sync, so that they run at once (`threads`).
+//! gate and in a sync, so that they run at once (`threads`). While five run, each looks at a board before each of its
+//! 2,000 turns: each view comes, and the prefixes never fall (`views`).
 #![tactic(auto)]
 
 #[cfg(test)]
@@ -32,5 +33,7 @@ mod rounds;
 mod settles;
 #[cfg(test)]
 mod threads;
+#[cfg(test)]
+mod views;
 #[cfg(test)]
 mod worlds;

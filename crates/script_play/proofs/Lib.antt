@@ -4,3 +4,5 @@ pub mod Runs
 pub mod SettledLemmas
 pub mod Starts
 pub mod Taken
+pub mod WatchedParts
+pub mod Watching

@@ -1,5 +1,5 @@
 -- A world that has settled, or walked, within its limits.
-use Rattle.std.proofs.Common.{◌≡◌, ℕ, ◌<◌, List, ◌++◌, ℤ, subst, arith}
+use Rattle.std.proofs.Common.{◌≡◌, ◌<◌, List, ◌++◌, ℤ, subst, arith}
 use Rattle.zone_minutes.specs.Window.{IsInWindow}
 use Rattle.disk_model.specs.MemDisk.{view_of}
 use Rattle.disk_model.specs.declared.mem_disk.MemDisk.{MemDisk}

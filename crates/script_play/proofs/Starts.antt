@@ -20,7 +20,7 @@ pub as_many_turns : (table : Table) (rows : List Row) (book : BookState) → Sta
 as_many_turns table rows book behind = ap length behind.turns ∙ length-map rows (λ (row : Row). row.turn)
 
 -- before a place among some, or the place behind them
-before_or_last : (place count : ℕ) → place < suc count → (place < count) ⊎ (place ≡ count)
+pub before_or_last : (place count : ℕ) → place < suc count → (place < count) ⊎ (place ≡ count)
 before_or_last zero zero within = inr refl
 before_or_last zero (suc count) within = inl (omega arith)
 before_or_last (suc place) zero within = absurd (omega (arith, within))

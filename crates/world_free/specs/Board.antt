@@ -66,7 +66,7 @@ pub record ShowsReplica (replica : ReplicaState) (old new : Writing) : Type 0 wh
   pub shows : ((prefix_of replica.state ≤ old.prefix) × (new ≡ old))
       ⊎ ((old.prefix < prefix_of replica.state) × HasNext old new (prefix_of replica.state) replica.machine.rows)
 
--- **What the writer has shown of a part**, which has these rows behind those with which it began: each state that it has published has
+-- **What the writer has shown of a part**, which has these rows after those with which it began: each state that it has published has
 -- the rows of the clerk who goes over the first entries of the log, as many as its prefix says. The last prefix is the greatest that the
 -- replica had after a turn of the part, or the one that was there; and where the writer's rows were the clerk's, they are.
 pub record ShowsPart (members who : ℕ) (table : Table) (situation : Situation) (begun more : List Row) (old new : Writing) : Type 0 where

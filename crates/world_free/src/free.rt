@@ -282,7 +282,7 @@ pub fn run_free<D: ArmedDisk + Send, M: Drop, R: Threads + Wait + Sync, G: TurnG
 }
 
 /// The same, and what the first replica has learned is shown on a board: its thread publishes the replica's launch table after each of
-/// its turns behind which the replica's prefix is above the board's. So readers see the part while it runs, and hold nobody's turn. It
+/// its turns after which the replica's prefix is above the board's. So readers see the part while it runs, and hold nobody's turn. It
 /// may wait for a reader too.
 ///
 /// # Errors

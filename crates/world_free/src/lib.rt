@@ -6,8 +6,8 @@
 //! `TurnGate`, so that a test can hold it until another has taken a turn; `OpenGate` holds nobody. A disk may be
 //! armed, and is so for the length of each step alone; a thread whose disk stops adds the turn of the stop and ends.
 //! `run_free_shown` shows the part on a board too: the first replica's thread publishes the launch table after each of
-//! its turns behind which the replica has learned more than the board shows, so each state there is one of the log
-//! (`ShowsPart`). If memory runs out nothing comes back, and so it is of a book of 2^31 turns. That threads run at
+//! its turns after which the replica has learned more than the board shows, so each state there is one of the log
+//! (`ShowsPart`, `each_state_of_a_board_is_one_of_the_log`). If memory runs out nothing comes back, and so it is of a book of 2^31 turns. That threads run at
 //! once, and that the call returns, isn't claimed. `next` has what a replica does next, `mails` the look at the book,
 //! `ready` what is done in a turn before it is added, `turns` the turns of a thread, `show` what it shows, `jobs` what
 //! threads are handed, `ends` what is left at the end.
@@ -18,6 +18,7 @@ mod free;
 mod gate;
 mod job;
 mod jobs;
+mod laws;
 mod mails;
 mod next;
 mod ready;
@@ -26,3 +27,4 @@ mod turns;
 
 pub use free::{run_free, run_free_shown};
 pub use gate::{OpenGate, TurnGate};
+pub use laws::each_state_of_a_board_is_one_of_the_log;
