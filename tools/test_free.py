@@ -1,5 +1,6 @@
 #!/usr/bin/env python3
-"""Tests of free turns in the small world: what a turn is by what its replica saw, and which journals are refused, and why.
+"""Tests of free turns in the small world: what a turn is by what its replica saw, which journals are refused, and why, and what is
+seen of the board.
 
 Usage: tools/test_free.py [NAME..]
 """
@@ -10,7 +11,7 @@ from small_world.changed import changed
 from small_world.made import free_run
 from small_world.replay import Followed, Recorded, Replay
 from small_world.run_file import RunFile
-from small_world.texts import journal_of, report_of
+from small_world.texts import journal_of, report_of, watch_of
 from small_world.verdict import fault_of
 from small_world.world import World
 
@@ -112,6 +113,23 @@ class Free(unittest.TestCase):
             run = RunFile("\n".join([*head, *job, "script", *script, "end", ""]))
             told = {report_of(World(run, seed).play()).split("job alice:1 ")[1].split("\n")[0] for seed in SEEDS}
             self.assertEqual(told, outcomes)
+
+    def test_what_is_seen_of_the_board(self):
+        for script, lines in (
+            ([f"free {STAMP} 2"], ["watch 1 1 1"]),
+            ([f"free {STAMP} 20"], ["watch 1 2 0"]),
+            (["stop 0", f"free {STAMP} 20"], ["watch 2 0 0"]),
+            (["campaign 0", f"round {STAMP} 4"], []),
+            # What rounds have learned is shown after a free turn.
+            (["campaign 0", f"round {STAMP} 4", f"free {STAMP} 1"], ["watch 3 2 0"]),
+            # It starts again, and has to learn anew what the board shows.
+            ([f"free {STAMP} 4", "stop 0", "restart 0", f"free {STAMP} 1"], ["watch 1 2 0", "watch 4 2 0"]),
+            # Its disk stops as it saves the vote by which it would learn the first entry, be that kept or not.
+            (["break 0 4 0", f"free {STAMP} 20"], ["watch 2 0 0"]),
+            (["break 0 7 1", f"free {STAMP} 20"], ["watch 2 0 0"]),
+        ):
+            world = World(run_of(1, *script, entry="0,20,40 * * * *")).play()
+            self.assertEqual(watch_of(world).splitlines(), lines, script)
 
     def test_rounds_are_judged_too(self):
         run = run_of(2, "campaign 0", f"round {STAMP} 1")

@@ -16,7 +16,7 @@ from xml.etree import ElementTree
 
 from small_world.made import break_run
 from small_world.run_file import RunFile
-from small_world.texts import journal_of, report_of
+from small_world.texts import journal_of, report_of, watch_of
 from small_world.world import World
 from timeline_lib.command import run
 
@@ -221,8 +221,10 @@ class Timeline(unittest.TestCase):
         self.assertEqual(self.titles(picture, "rect", "free"), ["replicas run by themselves, turns 1 to 24"])
         self.assertIn("free", self.texts(picture, "small"))
         world = World(RunFile(FREE), 4).play()
-        self.write(report_of(world) + journal_of(world))
-        self.assertEqual(self.ran(run, self.journal), (0, output, ""))
+        self.assertRegex(watch_of(world), r"\Awatch 2 \d \d\n\Z")
+        for seen in ("", watch_of(world)):
+            self.write(report_of(world) + seen + journal_of(world))
+            self.assertEqual(self.ran(run, self.journal), (0, output, ""))
         self.assertNotEqual(self.ran(run, "--alone", "--seed", "5")[1], output)
 
     def broken(self, *script, head=BROKEN):

@@ -65,7 +65,7 @@ def program_page():
     forms = [(sections, RUN_FILE, "A run file", "Lines", "The report", "The due list", "The check")]
     heads = [
         ("SYNOPSIS", [(program_usage,)]),
-        ("DESCRIPTION", [(intro, RUN_FILE), *forms, (sections, FORMATS, "The journal", "The summary")]),
+        ("DESCRIPTION", [(intro, RUN_FILE), *forms, (sections, FORMATS, "The journal", "What was seen of the board", "The summary")]),
         ("OPTIONS", [(part, RUN_FILE, "Words of the command line")]),
         ("EXIT STATUS", [(statuses, "cron_cluster"), (part, RUN_FILE, "Statuses and notes")]),
         ("FILES", [(sentence, "None is opened: the run file is standard input.")]),

@@ -38,6 +38,8 @@ class FreePart:
         first = len(self.world.letters)
         self.world.take(who, *self.next[who])
         self.world.deliver(first)
+        if who == 0:
+            self.world.show()
         self.taken[who] += 1
         self.next[who] = self.look(who)
 

@@ -132,6 +132,12 @@ class WatchedWorld(World):
         super().free(stamp, turns)
         for word, count in (self.seen - before).items():
             self.seen[f"free {word}"] += count
+        self.seen["free open on the board"] += self.shown[1] > 0
+
+    def show(self):
+        super().show()
+        prefix, jobs_open = self.shown
+        claim(jobs_open == sum(row.open_now is not None for row in self.tables[prefix]), "what is shown is of the log's first entries")
 
     # Draining.
 

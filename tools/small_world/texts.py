@@ -1,4 +1,4 @@
-"""The texts of a run: the report, the journal and the summary; and the run file that is made from a seed."""
+"""The texts of a run: the report, what was seen of the board, the journal and the summary; and the run file that is made from a seed."""
 from .instants import stamp_of
 from .launches import LAUNCH, VOID
 
@@ -13,6 +13,11 @@ def report_of(world):
     lines += [f"job {job.name} launched {count[LAUNCH]} void {count[VOID]}" for job, count in zip(run.jobs, counts)]
     lines += [f"{call.kind} {run.jobs[call.job].title(call.at)}" for call in held]
     return "\n".join([*lines, "end", ""])
+
+
+def watch_of(world):
+    """What was seen of the board, a line for each command `free`."""
+    return "".join(f"watch {number} {prefix} {jobs_open}\n" for number, prefix, jobs_open in world.looks)
 
 
 def turn_line(run, number, turn):

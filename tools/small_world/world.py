@@ -53,6 +53,10 @@ class World:
         self.parts = []
         # The latest minute that a clock has read.
         self.latest = None
+        # What replica 0 has shown on the board, a number of entries and of open jobs; and what was seen after each `free`, with the
+        # number of the command before these.
+        self.shown = 0, 0
+        self.looks = []
 
     # Turns.
 
@@ -166,6 +170,14 @@ class World:
         self.order.begin()
         while part.left():
             part.take(self.whose_turn(part))
+        self.looks.append((len(self.parts), *self.shown))
+
+    def show(self):
+        """Replica 0 shows its launch table, if it has learned more than the board shows. A stopped one has what it keeps."""
+        replica = self.replicas[0]
+        prefix, rows = (replica.prefix, replica.launches) if self.runs[0] else (replica.base, replica.rows)
+        if prefix > self.shown[0]:
+            self.shown = prefix, sum(row.open_now is not None for row in rows)
 
     def whose_turn(self, part):
         """The replica whose turn comes next in a free part."""

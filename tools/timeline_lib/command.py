@@ -37,7 +37,7 @@ def parser():
     layout = argparse.RawDescriptionHelpFormatter
     made = argparse.ArgumentParser(prog="timeline", description=help_text(ABOUT), formatter_class=layout)
     made.add_argument("run", metavar="RUN", nargs="?", help="the run file")
-    journal = "its journal, in place of what the program writes; a report before it is passed over"
+    journal = "its journal, in place of what the program writes; what stands before it, as a report, is passed over"
     made.add_argument("journal", metavar="JOURNAL", nargs="?", help=journal)
     made.add_argument("--make", type=int, metavar="SEED", help="in place of RUN: the run file that is made from this number")
     made.add_argument("--program", metavar="PATH", default=PROGRAM, help="the program; the built one by default")

@@ -15,7 +15,7 @@ use Rattle.cron_serve.specs.Input.{IsOfInput, IsRefusedBytes, IsRefusedInput, Su
 use Rattle.cron_serve.specs.Serve.{IsRefused, IsTextOf}
 use Rattle.cron_serve.specs.Written.{EndsWriting}
 use Rattle.cron_serve.specs.declared.words.Output.{Output}
-use Rattle.cron_serve.specs.declared.words.Output.TheVariants.{Report, Journal, DueList, Check, Summary}
+use Rattle.cron_serve.specs.declared.words.Output.TheVariants.{Report, DueList, Check, Summary}
 use Rattle.cron_serve.specs.Stop.{StopsFor, refusal_of, status_of}
 use Rattle.cron_serve.specs.declared.run_end.RunEnd.{RunEnd}
 use Rattle.cron_serve.proofs.VerdictLemmas.{one_input, suits_or_refused}
@@ -87,8 +87,7 @@ completes_stopped output source source' sink stop end of is given why = record {
 
 -- an input of which a text was to be written suits it
 suits_text : (output : Output) (bytes : List ℕ) (book : BookState) (nodes : List (Node MemDisk)) (text : List ℕ) → IsTextOf output bytes book nodes text → Suits output bytes
-suits_text Report bytes book nodes text is = (is.run.run, is.table, is.run.taken)
-suits_text Journal bytes book nodes text is = (is.run.run, is.table, is.run.taken)
+suits_text (Report watch journal) bytes book nodes text is = (is.run.run, is.table, is.run.taken)
 suits_text DueList bytes book nodes text is = (is.1.run, is.1.table, is.1.taken)
 suits_text Check bytes book nodes text is = (is.1.run, is.1.frame)
 suits_text (Summary seed) bytes book nodes text is = tt

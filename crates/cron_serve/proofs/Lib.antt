@@ -6,10 +6,12 @@ pub mod OneTextLemmas
 pub mod OptionLemmas
 pub mod PlayLemmas
 pub mod PromiseLemmas
+pub mod SeenLemmas
 pub mod ServeLemmas
 pub mod StatusLemmas
 pub mod TextLemmas
-pub mod VariantLemmas
 pub mod VerdictLemmas
+pub mod WatchLemmas
 pub mod WholeLemmas
+pub mod WishLemmas
 pub mod WordLemmas

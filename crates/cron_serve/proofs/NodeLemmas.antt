@@ -1,6 +1,6 @@
 -- The nodes that a run leaves, and their launch tables.
 use Rattle.std.proofs.Common.{◌≡◌, ℕ, ◌<◌, List, Some, true, length, take, sym, ap, ◌∙◌, subst}
-use Rattle.std.specs.Prelude.{⊤, slice_get}
+use Rattle.std.specs.Prelude.{slice_get}
 use Rattle.std.proofs.Math.Seq.{take-length}
 use Rattle.std.proofs.lemmas.Option.{slice_get_within}
 use Rattle.disk_model.specs.Images.{Image}
@@ -17,6 +17,7 @@ use Rattle.agreement.specs.Log.{FollowsLog}
 use Rattle.history.specs.Agrees.{Agrees}
 use Rattle.history.specs.Book.{Standing, standing_after}
 use Rattle.replica_node.specs.Node.{disk_of, replica_of}
+use Rattle.agreement.specs.Transition.{identity_of}
 use Rattle.replica_node.specs.declared.node.Node.{Node}
 use Rattle.replica_node.proofs.RestLemmas.{stands_at_rest}
 use Rattle.replica_store.specs.Files.{FilesStand}
@@ -26,6 +27,9 @@ use Rattle.cron_serve.specs.Serve.{IsRunOf}
 module _ (bytes : List ℕ) (table : Table) (book : BookState) (nodes : List (Node MemDisk)) (run : IsRunOf bytes table book nodes) where
   pub count_nodes : length nodes ≡ run.run.members
   count_nodes = run.kept.count ∙ run.members
+
+  pub is_of_number : (who : ℕ) (node : Node MemDisk) → slice_get nodes who ≡ Some node → (replica_of node).identity ≡ identity_of run.run.members who
+  is_of_number who node found = (run.kept.each who node found).identity ∙ ap (λ members. identity_of members who) run.members
 
   pub files_stand : (who : ℕ) (node : Node MemDisk) → slice_get nodes who ≡ Some node
       → FilesStand (length table.jobs) (replica_of node).state.kept (seen_of (disk_of node))

@@ -1,6 +1,8 @@
 -- For each output the bytes, the book and the nodes leave one text.
-use Rattle.std.proofs.Common.{◌≡◌, ap, ℕ, ◌≤◌, List, ◌++◌, sym, ◌∙◌, subst}
+use Rattle.std.proofs.Common.{◌≡◌, ap, ℕ, ◌≤◌, Bool, true, false, List, ◌++◌, sym, ◌∙◌, subst}
 use Rattle.due_set.specs.Table.{Table}
+use Rattle.agreement.specs.Log.{IsLog}
+use Rattle.history.specs.Book.{votes_in}
 use Rattle.disk_model.specs.declared.mem_disk.MemDisk.{MemDisk}
 use Rattle.replica_node.specs.declared.node.Node.{Node}
 use Rattle.world_law.specs.Book.{BookState}
@@ -14,10 +16,12 @@ use Rattle.journal_text.specs.Summary.{IsBookSummary}
 use Rattle.journal_text.proofs.StartLemmas.{one_journal}
 use Rattle.journal_text.proofs.SummaryLemmas.{one_summary}
 use Rattle.run_text.specs.Run.{Run}
-use Rattle.cron_serve.specs.Serve.{IsCheckOf, IsDueListOf, IsJournalOf, IsReportOf, IsRunOf, IsSummaryOf, IsTextOf}
+use Rattle.cron_serve.specs.Serve.{StandsIfAsked, IsCheckOf, IsDueListOf, IsReportOf, IsRunOf, IsSummaryOf, IsTextOf}
+use Rattle.cron_serve.specs.Watch.{IsBookWatch}
 use Rattle.cron_serve.specs.declared.words.Output.{Output}
-use Rattle.cron_serve.specs.declared.words.Output.TheVariants.{Report, Journal, DueList, Check, Summary}
+use Rattle.cron_serve.specs.declared.words.Output.TheVariants.{Report, DueList, Check, Summary}
 use Rattle.cron_serve.proofs.PlayLemmas.{few_members}
+use Rattle.cron_serve.proofs.SeenLemmas.{one_watch}
 use Rattle.cron_serve.proofs.VerdictLemmas.{one_frame, one_taken}
 
 module _ (bytes : List ℕ) (book : BookState) (nodes : List (Node MemDisk)) where
@@ -43,14 +47,26 @@ module _ (bytes : List ℕ) (book : BookState) (nodes : List (Node MemDisk)) whe
       (subst (λ (r : Run). IsBookJournal other r.commands book a) same.0
       (subst (λ (t : Table). IsBookJournal t first.run.commands book a) same.1 one)) two
 
-  one_report_of : (a b : List ℕ) → IsReportOf bytes book nodes a → IsReportOf bytes book nodes b → a ≡ b
-  one_report_of a b one two = same_report one.table two.table a b one.run two.run one.report two.report
+  same_watch : (table other : Table) (a b : List ℕ) (first : IsRunOf bytes table book nodes) (second : IsRunOf bytes other book nodes)
+      → IsBookWatch table first.run.commands book a → IsBookWatch other second.run.commands book b → a ≡ b
+  same_watch table other a b first second one two =
+      let same = same_played table other first second in
+      let is_log = subst (λ (members : ℕ). IsLog members (votes_in second.rows) second.whole.log) (sym second.members) second.whole.is_log in
+      one_watch other second.run.commands book second.rows second.whole.log second.behind is_log a b
+      (subst (λ (r : Run). IsBookWatch other r.commands book a) same.0
+      (subst (λ (t : Table). IsBookWatch t first.run.commands book a) same.1 one)) two
 
-  one_journal_of : (a b : List ℕ) → IsJournalOf bytes book nodes a → IsJournalOf bytes book nodes b → a ≡ b
-  one_journal_of a b one two =
-      one.parts ∙ ap (λ (front : List ℕ). front ++ one.back) (same_report one.table two.table one.front two.front one.run two.run one.report two.report)
-      ∙ ap (λ (back : List ℕ). two.front ++ back) (same_journal one.table two.table one.back two.back one.run two.run one.journal two.journal)
-      ∙ sym two.parts
+  same_asked : (asked : Bool) (is also : List ℕ → Type 0) → ((a b : List ℕ) → is a → also b → a ≡ b) → (a b : List ℕ) → StandsIfAsked asked is a → StandsIfAsked asked also b → a ≡ b
+  same_asked true is also same a b one two = same a b one two
+  same_asked false is also same a b one two = one ∙ sym two
+
+  one_report_of : (watch journal : Bool) (a b : List ℕ) → IsReportOf watch journal bytes book nodes a → IsReportOf watch journal bytes book nodes b → a ≡ b
+  one_report_of watch journal a b one two =
+      let first = same_report one.table two.table one.first two.first one.run two.run one.report two.report in
+      let second = same_asked watch _ _ (λ x y. same_watch one.table two.table x y one.run two.run) one.second two.second one.watched two.watched in
+      let third = same_asked journal _ _ (λ x y. same_journal one.table two.table x y one.run two.run) one.third two.third one.told two.told in
+      one.parts ∙ ap (λ (l : List ℕ). l ++ (one.second ++ one.third)) first ∙ ap (λ (l : List ℕ). two.first ++ (l ++ one.third)) second
+      ∙ ap (λ (l : List ℕ). two.first ++ (two.second ++ l)) third ∙ sym two.parts
 
   one_summary_of : (seed : ℕ) (a b : List ℕ) → IsSummaryOf seed bytes book nodes a → IsSummaryOf seed bytes book nodes b → a ≡ b
   one_summary_of seed a b one two =
@@ -70,8 +86,7 @@ module _ (bytes : List ℕ) (book : BookState) (nodes : List (Node MemDisk)) whe
 -- there is one text
 pub one_text_of : (output : Output) (bytes : List ℕ) (book : BookState) (nodes : List (Node MemDisk)) (a b : List ℕ)
     → IsTextOf output bytes book nodes a → IsTextOf output bytes book nodes b → a ≡ b
-one_text_of Report bytes book nodes a b one two = one_report_of bytes book nodes a b one two
-one_text_of Journal bytes book nodes a b one two = one_journal_of bytes book nodes a b one two
+one_text_of (Report watch journal) bytes book nodes a b one two = one_report_of bytes book nodes watch journal a b one two
 one_text_of DueList bytes book nodes a b (none, one) (none', two) = one_due_list_of bytes book nodes a b one two
 one_text_of Check bytes book nodes a b (none, one) (none', two) = one_check_of bytes book nodes a b one two
 one_text_of (Summary seed) bytes book nodes a b one two = one_summary_of bytes book nodes seed a b one two

@@ -51,6 +51,7 @@ abbrev letters : Choice → ℕ
 letters choice.List = 213
 letters choice.Check = 203
 letters choice.Journal = 217
+letters choice.Watch = 216
 letters (choice.Make s) = 206
 letters (choice.Lanes n) = 205
 
@@ -61,6 +62,7 @@ letters_begin : (a : Choice) (words rest : List (List ℕ)) → BeginsWith a wor
 letters_begin choice.List words rest (p, pa, pw) = first_letters (codes "--list") [] p words rest pa pw
 letters_begin choice.Check words rest (p, pa, pw) = first_letters (codes "--check") [] p words rest pa pw
 letters_begin choice.Journal words rest (p, pa, pw) = first_letters (codes "--journal") [] p words rest pa pw
+letters_begin choice.Watch words rest (p, pa, pw) = first_letters (codes "--watch") [] p words rest pa pw
 letters_begin (choice.Make s) words rest (p, (l, inl pa), pw) = first_letters (codes "--make") (decimal s ∷ []) p words rest pa pw
 letters_begin (choice.Make s) words rest (p, (l, inr pa), pw) = first_letters (codes "--make" ++ codes "=" ++ decimal s) [] p words rest pa pw
 letters_begin (choice.Lanes n) words rest (p, (l, m, inl pa), pw) = first_letters (codes "--lanes") (decimal n ∷ []) p words rest pa pw
@@ -70,27 +72,38 @@ same_option : (a b : Choice) (words rest others : List (List ℕ)) → letters a
 same_option choice.List choice.List words rest others e (p, pa, pw) (q, qa, qw) = (refl, (same_head _ _ _ _ p q words rest others pa pw qa qw).1)
 same_option choice.List choice.Check words rest others e first second = absurd (let apart : 213 ≡ 203 = e in omega (arith, apart))
 same_option choice.List choice.Journal words rest others e first second = absurd (let apart : 213 ≡ 217 = e in omega (arith, apart))
+same_option choice.List choice.Watch words rest others e first second = absurd (let apart : 213 ≡ 216 = e in omega (arith, apart))
 same_option choice.List (choice.Make s') words rest others e first second = absurd (let apart : 213 ≡ 206 = e in omega (arith, apart))
 same_option choice.List (choice.Lanes n') words rest others e first second = absurd (let apart : 213 ≡ 205 = e in omega (arith, apart))
 same_option choice.Check choice.List words rest others e first second = absurd (let apart : 203 ≡ 213 = e in omega (arith, apart))
 same_option choice.Check choice.Check words rest others e (p, pa, pw) (q, qa, qw) = (refl, (same_head _ _ _ _ p q words rest others pa pw qa qw).1)
 same_option choice.Check choice.Journal words rest others e first second = absurd (let apart : 203 ≡ 217 = e in omega (arith, apart))
+same_option choice.Check choice.Watch words rest others e first second = absurd (let apart : 203 ≡ 216 = e in omega (arith, apart))
 same_option choice.Check (choice.Make s') words rest others e first second = absurd (let apart : 203 ≡ 206 = e in omega (arith, apart))
 same_option choice.Check (choice.Lanes n') words rest others e first second = absurd (let apart : 203 ≡ 205 = e in omega (arith, apart))
 same_option choice.Journal choice.List words rest others e first second = absurd (let apart : 217 ≡ 213 = e in omega (arith, apart))
 same_option choice.Journal choice.Check words rest others e first second = absurd (let apart : 217 ≡ 203 = e in omega (arith, apart))
 same_option choice.Journal choice.Journal words rest others e (p, pa, pw) (q, qa, qw) = (refl, (same_head _ _ _ _ p q words rest others pa pw qa qw).1)
+same_option choice.Journal choice.Watch words rest others e first second = absurd (let apart : 217 ≡ 216 = e in omega (arith, apart))
 same_option choice.Journal (choice.Make s') words rest others e first second = absurd (let apart : 217 ≡ 206 = e in omega (arith, apart))
 same_option choice.Journal (choice.Lanes n') words rest others e first second = absurd (let apart : 217 ≡ 205 = e in omega (arith, apart))
+same_option choice.Watch choice.List words rest others e first second = absurd (let apart : 216 ≡ 213 = e in omega (arith, apart))
+same_option choice.Watch choice.Check words rest others e first second = absurd (let apart : 216 ≡ 203 = e in omega (arith, apart))
+same_option choice.Watch choice.Journal words rest others e first second = absurd (let apart : 216 ≡ 217 = e in omega (arith, apart))
+same_option choice.Watch choice.Watch words rest others e (p, pa, pw) (q, qa, qw) = (refl, (same_head _ _ _ _ p q words rest others pa pw qa qw).1)
+same_option choice.Watch (choice.Make s') words rest others e first second = absurd (let apart : 216 ≡ 206 = e in omega (arith, apart))
+same_option choice.Watch (choice.Lanes n') words rest others e first second = absurd (let apart : 216 ≡ 205 = e in omega (arith, apart))
 same_option (choice.Make s) choice.List words rest others e first second = absurd (let apart : 206 ≡ 213 = e in omega (arith, apart))
 same_option (choice.Make s) choice.Check words rest others e first second = absurd (let apart : 206 ≡ 203 = e in omega (arith, apart))
 same_option (choice.Make s) choice.Journal words rest others e first second = absurd (let apart : 206 ≡ 217 = e in omega (arith, apart))
+same_option (choice.Make s) choice.Watch words rest others e first second = absurd (let apart : 206 ≡ 216 = e in omega (arith, apart))
 same_option (choice.Make s) (choice.Make s') words rest others e (p, (l, pa), pw) (q, (l', qa), qw) =
     let same = same_valued (codes "--make") (decimal s) (decimal s') p q words rest others pa pw qa qw in (same_seeds s s' l l' same.0, same.1)
 same_option (choice.Make s) (choice.Lanes n') words rest others e first second = absurd (let apart : 206 ≡ 205 = e in omega (arith, apart))
 same_option (choice.Lanes n) choice.List words rest others e first second = absurd (let apart : 205 ≡ 213 = e in omega (arith, apart))
 same_option (choice.Lanes n) choice.Check words rest others e first second = absurd (let apart : 205 ≡ 203 = e in omega (arith, apart))
 same_option (choice.Lanes n) choice.Journal words rest others e first second = absurd (let apart : 205 ≡ 217 = e in omega (arith, apart))
+same_option (choice.Lanes n) choice.Watch words rest others e first second = absurd (let apart : 205 ≡ 216 = e in omega (arith, apart))
 same_option (choice.Lanes n) (choice.Make s') words rest others e first second = absurd (let apart : 205 ≡ 206 = e in omega (arith, apart))
 same_option (choice.Lanes n) (choice.Lanes n') words rest others e (p, (l, m, pa), pw) (q, (l', m', qa), qw) =
     let same = same_valued (codes "--lanes") (decimal n) (decimal n') p q words rest others pa pw qa qw in (same_lanes n n' m m' same.0, same.1)
@@ -111,6 +124,7 @@ pub begins_somewhere : (a : Choice) (words others : List (List ℕ)) → BeginsW
 begins_somewhere choice.List words others (p, pa, pw) none = word_there _ _ p words others pa pw none
 begins_somewhere choice.Check words others (p, pa, pw) none = word_there _ _ p words others pa pw none
 begins_somewhere choice.Journal words others (p, pa, pw) none = word_there _ _ p words others pa pw none
+begins_somewhere choice.Watch words others (p, pa, pw) none = word_there _ _ p words others pa pw none
 begins_somewhere (choice.Make s) words others (p, (l, inl pa), pw) none = word_there _ _ p words others pa pw none
 begins_somewhere (choice.Make s) words others (p, (l, inr pa), pw) none = word_there _ _ p words others pa pw none
 begins_somewhere (choice.Lanes n) words others (p, (l, m, inl pa), pw) none = word_there _ _ p words others pa pw none

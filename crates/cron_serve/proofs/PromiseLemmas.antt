@@ -1,5 +1,6 @@
 -- What the report of a run tells of its launches.
-use Rattle.std.proofs.Common.{◌≡◌, ℕ, List, refl, sym, ◌∙◌, subst}
+use Rattle.std.proofs.Common.{◌≡◌, ℕ, List, ◌++◌, ap, false, refl, sym, ◌∙◌, subst}
+use Rattle.std.proofs.lemmas.List.{append-nil}
 use Rattle.cron_io.specs.Views.{SourceView, SinkView}
 use Rattle.disk_model.specs.declared.mem_disk.MemDisk.{MemDisk}
 use Rattle.due_set.specs.Table.{Table}
@@ -39,13 +40,16 @@ module _ (bytes : List ℕ) (table : Table) (book : BookState) (nodes : List (No
     undisturbed = λ none. all_launched bytes table book nodes run none;
   }
 
-of_report : (bytes : List ℕ) (book : BookState) (nodes : List (Node MemDisk)) (text : List ℕ) (is : IsReportOf bytes book nodes text)
+of_report : (bytes : List ℕ) (book : BookState) (nodes : List (Node MemDisk)) (text : List ℕ) (is : IsReportOf false false bytes book nodes text)
     → ReportsLaunches is.table is.run.run.members is.run.run.commands text
 of_report bytes book nodes text is =
-    reports_launches bytes is.table book nodes is.run text (of_ledger is.table book text is.run.rest is.report)
+    let alone : text ≡ is.first =
+    is.parts ∙ ap (λ (l : List ℕ). is.first ++ (l ++ is.third)) is.watched ∙ ap (λ (l : List ℕ). is.first ++ l) is.told ∙ append-nil is.first in
+    subst (ReportsLaunches is.table is.run.run.members is.run.run.commands) (sym alone)
+    (reports_launches bytes is.table book nodes is.run is.first (of_ledger is.table book is.first is.run.rest is.report))
 
 of_text : (source source' : SourceView) (sink sink' : SinkView) (book : BookState) (nodes : List (Node MemDisk))
-    → WritesText Report source source' sink sink' book nodes → ReportsInput source source' sink sink'
+    → WritesText (Report false false) source source' sink sink' book nodes → ReportsInput source source' sink sink'
 of_text source source' sink sink' book nodes (text, is, gained) = record {
   bytes = is.bytes;
   read = is.given;
@@ -57,14 +61,14 @@ of_text source source' sink sink' book nodes (text, is, gained) = record {
   reports = of_report is.bytes book nodes text is.is;
 }
 
-pub reports_end : (source source' : SourceView) (sink sink' : SinkView) (end : RunEnd) (output : Output) → output ≡ Report
+pub reports_end : (source source' : SourceView) (sink sink' : SinkView) (end : RunEnd) (output : Output) → output ≡ Report false false
     → Ends output source source' sink sink' end → end.status ≡ 0 → ReportsInput source source' sink sink'
 reports_end source source' sink sink' end output report ends zero =
-    let written : WritesText Report source source' sink sink' end.book end.nodes.items =
+    let written : WritesText (Report false false) source source' sink sink' end.book end.nodes.items =
     subst (λ (o : Output). WritesText o source source' sink sink' end.book end.nodes.items) report (ends.text zero) in
     of_text source source' sink sink' end.book end.nodes.items written
 
 pub reports_input : (source source' : SourceView) (sink sink' notes notes' : SinkView) (status : ℕ)
-    → EndsProgram Report source source' sink sink' notes notes' status → status ≡ 0 → ReportsInput source source' sink sink'
+    → EndsProgram (Report false false) source source' sink sink' notes notes' status → status ≡ 0 → ReportsInput source source' sink sink'
 reports_input source source' sink sink' notes notes' status ends zero =
-    reports_end source source' sink sink' ends.end Report refl ends.ends (sym ends.status_is ∙ zero)
+    reports_end source source' sink sink' ends.end (Report false false) refl ends.ends (sym ends.status_is ∙ zero)

@@ -1,6 +1,6 @@
 -- From what was written to what the program says of its end.
-use Rattle.std.proofs.Common.{◌≡◌, ◌≢◌, ◌⊎◌, inl, inr, ℕ, ◌≤◌, ◌↔◌, List, [], ◌∷◌, ◌++◌, length, map, Option, None, Some, Result, Ok, Err, refl, sym, ◌∙◌, subst, arith}
-use Rattle.std.specs.Prelude.{IfErr, IsErrAnd, IsSome, IsSomeAnd}
+use Rattle.std.proofs.Common.{◌≡◌, ◌≢◌, ◌⊎◌, inl, inr, ℕ, ◌≤◌, ◌↔◌, List, [], ◌∷◌, ◌++◌, length, map, Option, None, Some, Result, Ok, Err, refl, sym, ap, ◌∙◌, subst, arith}
+use Rattle.std.specs.Prelude.{Bool, IfErr, IsErrAnd, IsSome, IsSomeAnd, false, if◌then◌else◌, true}
 use Rattle.std.specs.Io.KnownBytes.{Consumes}
 use Rattle.std.proofs.lemmas.List.{append-nil}
 use Rattle.cron_io.specs.Faults.{Rose}
@@ -20,6 +20,8 @@ use Rattle.journal_text.specs.Journal.{journal_text}
 use Rattle.journal_text.specs.Summary.{IsBookSummary}
 use Rattle.journal_text.proofs.StartLemmas.{book_starts}
 use Rattle.script_play.specs.Play.{HasStarts}
+use Rattle.script_play.specs.declared.seen.Seen.{Seen}
+use Rattle.script_text.specs.declared.command.Command.{Command}
 use Rattle.report_text.specs.Writes.{Writes}
 use Rattle.report_text.specs.declared.fault.ReportFault.{ReportFault}
 use Rattle.report_text.specs.declared.fault.ReportFault.TheVariants as report
@@ -28,12 +30,14 @@ use Rattle.due_list.specs.declared.fault.ListFault.{ListFault}
 use Rattle.due_list.specs.declared.fault.ListFault.TheVariants as listing
 use Rattle.cron_serve.specs.Complete.{Completes}
 use Rattle.cron_serve.specs.Ends.{Ends, EndsServing, EndsUnread}
-use Rattle.cron_serve.specs.Serve.{IsGiven, IsJournalOf, IsRefused, IsRunOf, IsSummaryOf, IsTextOf, LeavesNoRun}
+use Rattle.cron_serve.specs.Serve.{StandsIfAsked, IsGiven, IsRefused, IsReportOf, IsRunOf, IsSummaryOf, IsTextOf, LeavesNoRun}
 use Rattle.cron_serve.specs.Input.{IsOfInput, IsRefusedBytes}
+use Rattle.cron_serve.specs.Played.{HasWatched}
 use Rattle.cron_serve.specs.Stop.{StopsFor, refusal_of, status_of, stop_of_run}
+use Rattle.cron_serve.specs.Watch.{IsBookWatch, watch_text}
 use Rattle.cron_serve.specs.Written.{EndsRunText, EndsWriting, WritesAtStatus, WritesTextOf, status_of_listing, status_of_writing}
 use Rattle.cron_serve.specs.declared.words.Output.{Output}
-use Rattle.cron_serve.specs.declared.words.Output.TheVariants.{Report, Journal, DueList, Check, Summary}
+use Rattle.cron_serve.specs.declared.words.Output.TheVariants.{Report, DueList, Check, Summary}
 use Rattle.run_text.specs.Steps.{IfRefused}
 use Rattle.run_text.specs.declared.refusal.Refusal.{Refusal}
 use Rattle.run_text.specs.declared.refusal.RunFault.{RunFault}
@@ -120,21 +124,35 @@ pub may_start : (bytes : List ℕ) (table : Table) (book : BookState) (nodes : L
     → HasStarts table run.run.commands book starts → AreStarts (length book.turns) starts × IsBookJournal table run.run.commands book (journal_text table book.turns starts)
 may_start bytes table book nodes starts run has = book_starts table run.run.commands book has.rows starts has.behind has.begin
 
-pub ends_journal : (bytes : List ℕ) (sink sink' : SinkView) (table : Table) (book : BookState) (nodes : List (Node MemDisk)) (starts : List ℕ) (end : RunEnd) (front : List ℕ)
-    → (run : IsRunOf bytes table book nodes) → HasStarts table run.run.commands book starts → IsBookReport table book front
-    → EndsRunText sink sink' book nodes end (front ++ journal_text table book.turns starts) → EndsWriting Journal bytes sink sink' end
-ends_journal bytes sink sink' table book nodes starts end front run has report e =
-    let journal = (may_start bytes table book nodes starts run has).1 in
-    let of : IsJournalOf bytes book nodes (front ++ journal_text table book.turns starts) = record {
+watched_is : (watch : Bool) (table : Table) (script : List Command) (book : BookState) (starts : List ℕ) (seen : List Seen) → HasWatched watch table script book starts seen
+    → StandsIfAsked watch (IsBookWatch table script book) (watch_text seen)
+watched_is true table script book starts seen has = record { starts = starts; seen = seen; has = has; text_is = refl }
+watched_is false table script book starts seen none = ap watch_text none
+
+told_is : (journal : Bool) (table : Table) (script : List Command) (book : BookState) (text : List ℕ) → IsBookJournal table script book text
+    → StandsIfAsked journal (IsBookJournal table script book) (if journal then text else [])
+told_is true table script book text is = is
+told_is false table script book text is = refl
+
+pub ends_report : (watch journal : Bool) (bytes : List ℕ) (sink sink' : SinkView) (table : Table) (book : BookState) (nodes : List (Node MemDisk)) (starts : List ℕ) (seen : List Seen)
+    (end : RunEnd) (front : List ℕ) (run : IsRunOf bytes table book nodes) → HasStarts table run.run.commands book starts
+    → HasWatched watch table run.run.commands book starts seen → IsBookReport table book front
+    → EndsRunText sink sink' book nodes end (front ++ (watch_text seen ++ (if journal then journal_text table book.turns starts else [])))
+    → EndsWriting (Report watch journal) bytes sink sink' end
+ends_report watch journal bytes sink sink' table book nodes starts seen end front run has watched report e =
+    let third = if journal then journal_text table book.turns starts else [] in
+    let of : IsReportOf watch journal bytes book nodes (front ++ (watch_text seen ++ third)) = record {
       table = table;
       run = run;
-      front = front;
-      back = journal_text table book.turns starts;
+      first = front;
+      second = watch_text seen;
+      third = third;
       parts = refl;
       report = report;
-      journal = journal;
+      watched = watched_is watch table run.run.commands book starts seen watched;
+      told = told_is journal table run.run.commands book (journal_text table book.turns starts) (may_start bytes table book nodes starts run has).1;
     } in
-    ends_run Journal bytes sink sink' book nodes end (front ++ journal_text table book.turns starts) of e
+    ends_run (Report watch journal) bytes sink sink' book nodes end (front ++ (watch_text seen ++ third)) of e
 
 pub ends_summary : (seed : ℕ) (bytes : List ℕ) (sink sink' : SinkView) (table : Table) (book : BookState) (nodes : List (Node MemDisk)) (end : RunEnd) (text : List ℕ)
     → IsRunOf bytes table book nodes → IsBookSummary table seed book text → EndsRunText sink sink' book nodes end text → EndsWriting (Summary seed) bytes sink sink' end
@@ -232,8 +250,7 @@ ends_text output source source' sink sink' bytes end given read_on e =
 
 -- an input that was read to its end was given
 pub given_by_reading : (output : Output) (source source' : SourceView) (bytes : List ℕ) → IsOfInput output → IsReadToEnd source source' bytes → IsGiven output source source' bytes
-given_by_reading Report source source' bytes of read = read
-given_by_reading Journal source source' bytes of read = read
+given_by_reading (Report watch journal) source source' bytes of read = read
 given_by_reading DueList source source' bytes of read = read
 given_by_reading Check source source' bytes of read = read
 given_by_reading (Summary seed) source source' bytes of read = absurd of

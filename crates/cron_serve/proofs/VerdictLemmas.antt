@@ -10,7 +10,7 @@ use Rattle.run_text.proofs.UniqueLemmas as reading
 use Rattle.job_table.specs.Table.{IsTableOf, IsRefusedRun}
 use Rattle.cron_serve.specs.Input.{IsRunWithTable, IsTakenFrame, IsRefusedRunFile, IsRefusedAsRun, IsRefusedAsFrame, IsOfInput, IsRefusedBytes, IsRefusedInput, Suits}
 use Rattle.cron_serve.specs.declared.words.Output.{Output}
-use Rattle.cron_serve.specs.declared.words.Output.TheVariants.{Report, Journal, DueList, Check, Summary}
+use Rattle.cron_serve.specs.declared.words.Output.TheVariants.{Report, DueList, Check, Summary}
 use Rattle.cron_serve.proofs.TextLemmas.{never_both, one_fault}
 use Rattle.job_table.proofs.UniqueLemmas.{one_table, one_refused_run, not_refused_run}
 
@@ -53,8 +53,7 @@ one_refused_frame bytes a b (inr first) (inl second) = absurd (never_both bytes 
 one_refused_frame bytes a b (inr first) (inr second) = reading.one_refusal_by Counted (lines_of bytes) a b first.why second.why
 
 one_refused : (output : Output) (bytes : List ℕ) (a b : Refusal) → IsRefusedBytes output bytes a → IsRefusedBytes output bytes b → a ≡ b
-one_refused Report bytes a b first second = one_refused_run_file bytes a b first second
-one_refused Journal bytes a b first second = one_refused_run_file bytes a b first second
+one_refused (Report watch journal) bytes a b first second = one_refused_run_file bytes a b first second
 one_refused DueList bytes a b first second = one_refused_run_file bytes a b first second
 one_refused Check bytes a b first second = one_refused_frame bytes a b first second
 one_refused (Summary seed) bytes a b first second = absurd first
@@ -84,15 +83,13 @@ frame_or_refused bytes run refusal taken (inl fault) = never_both bytes refusal 
 frame_or_refused bytes run refusal taken (inr refused) = reading.never_both_by Counted (lines_of bytes) run refusal taken.says refused.why
 
 suits_or_refused_bytes : (output : Output) (bytes : List ℕ) (refusal : Refusal) → Suits output bytes → IsRefusedBytes output bytes refusal → ⊥
-suits_or_refused_bytes Report bytes refusal suits refused = taken_or_refused bytes suits.0 suits.1 refusal suits.2 refused
-suits_or_refused_bytes Journal bytes refusal suits refused = taken_or_refused bytes suits.0 suits.1 refusal suits.2 refused
+suits_or_refused_bytes (Report watch journal) bytes refusal suits refused = taken_or_refused bytes suits.0 suits.1 refusal suits.2 refused
 suits_or_refused_bytes DueList bytes refusal suits refused = taken_or_refused bytes suits.0 suits.1 refusal suits.2 refused
 suits_or_refused_bytes Check bytes refusal suits refused = frame_or_refused bytes suits.0 refusal suits.1 refused
 suits_or_refused_bytes (Summary seed) bytes refusal suits refused = refused
 
 suits_short : (output : Output) (bytes : List ℕ) → IsOfInput output → Suits output bytes → length bytes ≤ 1_048_576
-suits_short Report bytes of suits = suits.2.short
-suits_short Journal bytes of suits = suits.2.short
+suits_short (Report watch journal) bytes of suits = suits.2.short
 suits_short DueList bytes of suits = suits.2.short
 suits_short Check bytes of suits = suits.1.short
 suits_short (Summary seed) bytes of suits = absurd of

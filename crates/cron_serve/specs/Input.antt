@@ -8,7 +8,7 @@ use Rattle.run_text.specs.declared.refusal.Refusal.{Refusal}
 use Rattle.job_table.specs.Table.{IsTableOf, IsRefusedRun, whole_run}
 use Rattle.cron_serve.specs.Text.{AreTexts, IsNotText}
 use Rattle.cron_serve.specs.declared.words.Output.{Output}
-use Rattle.cron_serve.specs.declared.words.Output.TheVariants.{Report, Journal, DueList, Check, Summary}
+use Rattle.cron_serve.specs.declared.words.Output.TheVariants.{Report, DueList, Check, Summary}
 use Rattle.cron_fields.specs.declared.cause.Cause.TheVariants.{TooLarge}
 
 -- the input is the text of this run, whose jobs have this table
@@ -32,8 +32,7 @@ IsOfInput output = ⊤
 -- the input is one of which this can be written: of a run with a table, and the check of any run; and a summary of whatever
 -- stands there, since nothing is read for it
 abbrev pub Suits : Output → List ℕ → Type 0
-Suits Report bytes = (run : Run) × (table : Table) × IsRunWithTable bytes run table
-Suits Journal bytes = (run : Run) × (table : Table) × IsRunWithTable bytes run table
+Suits (Report watch journal) bytes = (run : Run) × (table : Table) × IsRunWithTable bytes run table
 Suits DueList bytes = (run : Run) × (table : Table) × IsRunWithTable bytes run table
 Suits Check bytes = (run : Run) × IsTakenFrame bytes run
 Suits (Summary seed) bytes = ⊤
@@ -62,8 +61,7 @@ IsRefusedAsFrame bytes refusal = IsNotText bytes refusal ⊎ IsRefusedFrameFile 
 
 -- for what the bytes are refused, where this is to be written
 abbrev pub IsRefusedBytes : Output → List ℕ → Refusal → Type 0
-IsRefusedBytes Report bytes refusal = IsRefusedAsRun bytes refusal
-IsRefusedBytes Journal bytes refusal = IsRefusedAsRun bytes refusal
+IsRefusedBytes (Report watch journal) bytes refusal = IsRefusedAsRun bytes refusal
 IsRefusedBytes DueList bytes refusal = IsRefusedAsRun bytes refusal
 IsRefusedBytes Check bytes refusal = IsRefusedAsFrame bytes refusal
 IsRefusedBytes (Summary seed) bytes refusal = ⊥

@@ -2,6 +2,7 @@ pub mod Words
 pub mod Text
 pub mod Input
 pub mod Promise
+pub mod Watch
 pub mod Serve
 pub mod Played
 pub mod Stop

@@ -1,5 +1,5 @@
 -- How the program ends, and what it leaves. Source: docs/RUN_FILE.md.
-use Rattle.std.specs.Prelude.{◌≡◌, ◌⊎◌, ℕ, ◌≤◌, ◌==◌, if◌then◌else◌, List, [], ◌∷◌, ◌++◌, length, Option, None, Some, codes, decimal}
+use Rattle.std.specs.Prelude.{◌≡◌, ◌⊎◌, ℕ, ◌≤◌, ◌==◌, Bool, true, false, if◌then◌else◌, List, [], ◌∷◌, ◌++◌, length, Option, None, Some, codes, decimal}
 use Rattle.cron_io.specs.Faults.{Rose}
 use Rattle.cron_io.specs.Reading.{IsReadToEnd, HasTakenCount}
 use Rattle.cron_io.specs.Views.{SourceView, SinkView}
@@ -21,8 +21,9 @@ use Rattle.run_text.specs.Run.{Run}
 use Rattle.run_text.specs.declared.refusal.Refusal.{Refusal}
 use Rattle.job_table.specs.Table.{whole_run}
 use Rattle.cron_serve.specs.Input.{IsOfInput, IsRunWithTable, IsTakenFrame, IsRefusedBytes}
+use Rattle.cron_serve.specs.Watch.{IsBookWatch}
 use Rattle.cron_serve.specs.declared.words.Output.{Output}
-use Rattle.cron_serve.specs.declared.words.Output.TheVariants.{Report, Journal, DueList, Check, Summary}
+use Rattle.cron_serve.specs.declared.words.Output.TheVariants.{Report, DueList, Check, Summary}
 use Rattle.cron_fields.specs.declared.cause.Cause.TheVariants.{TooLarge}
 
 -- more than 1,048,576 bytes came
@@ -54,21 +55,23 @@ pub record IsRunOf (bytes : List ℕ) (table : Table) (book : BookState) (nodes 
   pub whole : IsWholeRun run.members table run.commands rows
   pub kept : AreMemNodesOf table rows book nodes
 
--- the bytes are such a run, and this is the report of its book
-pub record IsReportOf (bytes : List ℕ) (book : BookState) (nodes : List (Node MemDisk)) (text : List ℕ) : Type 0 where
-  pub table : Table
-  pub run : IsRunOf bytes table book nodes
-  pub report : IsBookReport table book text
+-- a text stands there where it is asked for, and none where not
+abbrev pub StandsIfAsked : Bool → (List ℕ → Type 0) → List ℕ → Type 0
+StandsIfAsked true is text = is text
+StandsIfAsked false is text = text ≡ []
 
--- the bytes are such a run, and this is the report of its book, and behind it the journal of the turns that obey its script
-pub record IsJournalOf (bytes : List ℕ) (book : BookState) (nodes : List (Node MemDisk)) (text : List ℕ) : Type 0 where
+-- **The bytes are such a run, and these are its texts**, one after another: the report of its book, and then, where they are asked for, what
+-- was seen of the board after each command `free`, and the journal of the turns that obey its script.
+pub record IsReportOf (watch journal : Bool) (bytes : List ℕ) (book : BookState) (nodes : List (Node MemDisk)) (text : List ℕ) : Type 0 where
   pub table : Table
   pub run : IsRunOf bytes table book nodes
-  pub front : List ℕ
-  pub back : List ℕ
-  pub parts : text ≡ front ++ back
-  pub report : IsBookReport table book front
-  pub journal : IsBookJournal table run.run.commands book back
+  pub first : List ℕ
+  pub second : List ℕ
+  pub third : List ℕ
+  pub parts : text ≡ first ++ (second ++ third)
+  pub report : IsBookReport table book first
+  pub watched : StandsIfAsked watch (IsBookWatch table run.run.commands book) second
+  pub told : StandsIfAsked journal (IsBookJournal table run.run.commands book) third
 
 -- the bytes are such a run, and this is the summary of its book, with the seed
 pub record IsSummaryOf (seed : ℕ) (bytes : List ℕ) (book : BookState) (nodes : List (Node MemDisk)) (text : List ℕ) : Type 0 where
@@ -97,8 +100,7 @@ pub record LeavesNoRun (book : BookState) (nodes : List (Node MemDisk)) : Type 0
 
 -- This is to be written of the bytes, and this book and these nodes are left: no run is played for a due list and for a check.
 abbrev pub IsTextOf : Output → List ℕ → BookState → List (Node MemDisk) → (text : List ℕ) → Type 0
-IsTextOf Report bytes book nodes text = IsReportOf bytes book nodes text
-IsTextOf Journal bytes book nodes text = IsJournalOf bytes book nodes text
+IsTextOf (Report watch journal) bytes book nodes text = IsReportOf watch journal bytes book nodes text
 IsTextOf DueList bytes book nodes text = LeavesNoRun book nodes × IsDueListOf bytes text
 IsTextOf Check bytes book nodes text = LeavesNoRun book nodes × IsCheckOf bytes text
 IsTextOf (Summary seed) bytes book nodes text = IsSummaryOf seed bytes book nodes text
@@ -134,7 +136,7 @@ refusal_note refusal =
 -- the note of a status
 abbrev pub status_note : ℕ → List ℕ
 status_note status =
-    if status == 1 then codes "cron_cluster: usage: cron_cluster [--journal] [--lanes N] [--make SEED] [--list] [--check]" ++ 10 ∷ []
+    if status == 1 then codes "cron_cluster: usage: cron_cluster [--journal] [--lanes N] [--make SEED] [--list] [--check] [--watch]" ++ 10 ∷ []
     else (if status == 3 then codes "cron_cluster: read fault" ++ 10 ∷ []
     else (if status == 4 then codes "cron_cluster: write fault" ++ 10 ∷ []
     else (if status == 5 then codes "cron_cluster: out of memory" ++ 10 ∷ [] else [])))

@@ -1,12 +1,14 @@
 -- The words of the command line: the options, how each is spelled, which may stand together, and what they ask for.
 -- Source: docs/RUN_FILE.md.
-use Rattle.std.specs.Prelude.{◌≡◌, ◌⊎◌, ◌≤◌, ℕ, List, [], ◌∷◌, ◌++◌, Option, None, Some, unwrap_or, map, codes, decimal, AllPairs, String, string_bytes}
+use Rattle.std.specs.Prelude.{◌≡◌, ◌⊎◌, ◌≤◌, ℕ, Bool, true, false, List, [], ◌∷◌, ◌++◌, Option, None, Some, map, filter_map, get_or, codes, decimal, AllPairs, String, string_bytes}
+use Rattle.std.specs.List.{list_any}
+use Rattle.std.specs.Option.{option_to_list}
 use Rattle.std.specs.declared.alloc.Global.{Global}
 use Rattle.cron_serve.specs.declared.words.Asked.{Asked}
 use Rattle.cron_serve.specs.declared.words.Choice.{Choice}
 use Rattle.cron_serve.specs.declared.words.Choice.TheVariants as choice
 use Rattle.cron_serve.specs.declared.words.Output.{Output}
-use Rattle.cron_serve.specs.declared.words.Output.TheVariants.{Report, Journal, DueList, Check, Summary}
+use Rattle.cron_serve.specs.declared.words.Output.TheVariants.{Report, DueList, Check, Summary}
 use Rattle.cron_serve.specs.declared.words.Wishes.{Wishes}
 
 -- the words are this name and this value: two words, or one with `=` between the two
@@ -18,28 +20,34 @@ abbrev pub IsSpelledBy : Choice → List (List ℕ) → Type 0
 IsSpelledBy choice.List words = words ≡ codes "--list" ∷ []
 IsSpelledBy choice.Check words = words ≡ codes "--check" ∷ []
 IsSpelledBy choice.Journal words = words ≡ codes "--journal" ∷ []
+IsSpelledBy choice.Watch words = words ≡ codes "--watch" ∷ []
 IsSpelledBy (choice.Make seed) words = (seed ≤ 4_294_967_295) × IsNameWithValue (codes "--make") (decimal seed) words
 IsSpelledBy (choice.Lanes lanes) words = (1 ≤ lanes) × (lanes ≤ 8) × IsNameWithValue (codes "--lanes") (decimal lanes) words
 
--- the words begin with a spelling of the option, and the others stand behind it
+-- the words begin with a spelling of the option, and the others follow it
 abbrev pub BeginsWith : Choice → (words others : List (List ℕ)) → Type 0
 BeginsWith choice words others = (own : List (List ℕ)) × IsSpelledBy choice own × (words ≡ own ++ others)
 
--- the words spell the options, one behind the other
+-- the words spell the options, one after the other
 abbrev pub AreSpelledBy : List Choice → List (List ℕ) → Type 0
 AreSpelledBy [] words = words ≡ []
 AreSpelledBy (choice ∷ choices) words = (others : List (List ℕ)) × BeginsWith choice words others × AreSpelledBy choices others
 
--- The two options may stand on one command line, in this order. Of those that ask for a text, one may stand.
+-- The two options may stand on one command line, in this order. One text may be asked for; beside a report there may be what was seen of
+-- the board, and the journal.
 abbrev pub MayStandTogether : Choice → Choice → Type 0
 MayStandTogether choice.List (choice.Lanes lanes) = Unit {0}
 MayStandTogether choice.Check (choice.Lanes lanes) = Unit {0}
 MayStandTogether choice.Journal (choice.Lanes lanes) = Unit {0}
+MayStandTogether choice.Watch (choice.Lanes lanes) = Unit {0}
 MayStandTogether (choice.Make seed) (choice.Lanes lanes) = Unit {0}
 MayStandTogether (choice.Lanes lanes) choice.List = Unit {0}
 MayStandTogether (choice.Lanes lanes) choice.Check = Unit {0}
 MayStandTogether (choice.Lanes lanes) choice.Journal = Unit {0}
+MayStandTogether (choice.Lanes lanes) choice.Watch = Unit {0}
 MayStandTogether (choice.Lanes lanes) (choice.Make seed) = Unit {0}
+MayStandTogether choice.Journal choice.Watch = Unit {0}
+MayStandTogether choice.Watch choice.Journal = Unit {0}
 MayStandTogether choice other = ⊥
 
 -- the words are those of the options, any two of which may stand together
@@ -47,24 +55,39 @@ pub record AreWordsOf (choices : List Choice) (words : List (List ℕ)) : Type 0
   pub spelled : AreSpelledBy choices words
   pub together : AllPairs MayStandTogether choices
 
--- what the first option that says so asks the program to write
-abbrev pub output_of : List Choice → Option Output
-output_of [] = None
-output_of (choice.List ∷ choices) = Some DueList
-output_of (choice.Check ∷ choices) = Some Check
-output_of (choice.Journal ∷ choices) = Some Journal
-output_of (choice.Make seed ∷ choices) = Some (Summary seed)
-output_of (choice.Lanes lanes ∷ choices) = output_of choices
+-- the text that an option asks for in place of a report
+abbrev pub text_asked : Choice → Option Output
+text_asked choice.List = Some DueList
+text_asked choice.Check = Some Check
+text_asked (choice.Make seed) = Some (Summary seed)
+text_asked choice = None
 
--- how many lanes the first option that says so asks for
-abbrev pub lanes_of : List Choice → Option ℕ
-lanes_of [] = None
-lanes_of (choice.Lanes lanes ∷ choices) = Some lanes
-lanes_of (choice ∷ choices) = lanes_of choices
+-- the number of lanes that an option asks for
+abbrev pub lanes_asked : Choice → Option ℕ
+lanes_asked (choice.Lanes lanes) = Some lanes
+lanes_asked choice = None
 
--- what options ask for: the report unless one of them asks for another text, on one lane unless one asks for more
+-- the option asks for what was seen of the board
+abbrev pub is_watch : Choice → Bool
+is_watch choice.Watch = true
+is_watch choice = false
+
+-- the option asks for the journal
+abbrev pub is_journal : Choice → Bool
+is_journal choice.Journal = true
+is_journal choice = false
+
+-- what options ask the program to write: the report, with what else they ask for of the run, unless one of them asks for another text
+abbrev pub output_of : List Choice → Output
+output_of choices = get_or (filter_map text_asked choices) 0 (Report (list_any is_watch choices) (list_any is_journal choices))
+
+-- on how many lanes: on one unless one of them asks for more
+abbrev pub lanes_of : List Choice → ℕ
+lanes_of choices = get_or (filter_map lanes_asked choices) 0 1
+
+-- what options ask for
 abbrev pub wanted : List Choice → Asked
-wanted choices = record { output = unwrap_or (output_of choices) Report; lanes = unwrap_or (lanes_of choices) 1 }
+wanted choices = record { output = output_of choices; lanes = lanes_of choices }
 
 -- the words ask for this
 abbrev pub Asks : List (List ℕ) → Asked → Type 0
@@ -77,14 +100,16 @@ HasNoOptions words = (choices : List Choice) → AreWordsOf choices words → �
 -- the options may stand together, and ask for this
 pub record AreWishesOf (choices : List Choice) (wishes : Wishes) : Type 0 where
   pub together : AllPairs MayStandTogether choices
-  pub output : wishes.output ≡ output_of choices
-  pub lanes : wishes.lanes ≡ lanes_of choices
+  pub text : filter_map text_asked choices ≡ option_to_list wishes.text
+  pub watch : list_any is_watch choices ≡ wishes.watch
+  pub journal : list_any is_journal choices ≡ wishes.journal
+  pub lanes : filter_map lanes_asked choices ≡ option_to_list wishes.lanes
 
 -- the texts of the program's arguments
 abbrev pub texts_of : List (String Global) → List (List ℕ)
 texts_of words = map string_bytes words
 
--- the words behind the program's name
+-- the words after the program's name
 abbrev pub behind_name : List (List ℕ) → List (List ℕ)
 behind_name [] = []
 behind_name (name ∷ words) = words

@@ -1,17 +1,19 @@
 //! What is written of an input that was read, and how its run, or one that was made, is played.
-ghost use Rattle.std.specs.Prelude.{◌≡◌, ◌++◌, ◌<◌, ◌≤◌, List, ℕ, length, None, IfOk, IfErr};
-ghost use Rattle.journal_text.specs.Journal.{journal_text};
+ghost use Rattle.std.specs.Prelude.{◌≡◌, ◌++◌, ◌<◌, ◌≤◌, [], All, List, ℕ, false, if◌then◌else◌, length, None, IfOk, IfErr, true};
+ghost use Rattle.due_set.specs.Table.{Table};
 ghost use Rattle.report_text.specs.Book.{IsBookReport};
 ghost use Rattle.report_text.specs.Writes.{Writes};
 ghost use Rattle.run_text.specs.Steps.{IfRefused};
 ghost use Rattle.script_play.specs.Play.{HasStarts};
 ghost use Rattle.cron_serve.specs.Input.{IsOfInput, IsRefusedAsRun, IsRefusedBytes};
-ghost use Rattle.cron_serve.specs.Played.{IsPlayed};
+ghost use Rattle.cron_serve.specs.Played.{HasWatched, IsPlayed, played_journal};
 ghost use Rattle.cron_serve.specs.Serve.{IsRunOf, LeavesNoRun};
+ghost use Rattle.cron_serve.specs.Watch.{watch_text};
 ghost use Rattle.cron_serve.specs.Written.{EndsRunText, EndsWriting, status_of_listing, status_of_writing};
 
 use crate::input::{take_frame, take_table};
 use crate::run_end::RunEnd;
+use crate::watch::{play_watched, write_watch};
 use crate::words::{Asked, Output};
 use cron_io::Sink;
 use disk_model::MemDisk;
@@ -21,15 +23,15 @@ use journal_text::write_journal;
 use replica_node::Node;
 use report_text::{ReportFault, write_book_report};
 use run_text::RunFault;
-use script_play::play_run;
+use script_play::Seen;
 use std::alloc::Global;
 use std::sync::Wait;
 use std::thread::Threads;
 use world_free::TurnGate;
 use world_law::Book;
 
-/// A run that was played: the table of its jobs, its number of replicas, the book and the nodes that it left, and the
-/// numbers of turns at which the parts of its script begin.
+/// A run that was played: the table of its jobs, its number of replicas, the book and the nodes that it left, the numbers
+/// of turns at which the parts of its script begin, and what was seen of a board.
 #[derive(Drop)]
 pub struct Played {
     /// The table of its jobs.
@@ -42,6 +44,8 @@ pub struct Played {
     pub nodes: Vec<Node<MemDisk>>,
     /// The numbers of turns at which the parts of its commands begin, and last that of the walk.
     pub starts: Vec<u64>,
+    /// What was seen of a board after each command `free`, if that was asked for.
+    pub seen: Vec<Seen>,
 }
 
 /// Writes what is asked for of an input.
@@ -65,13 +69,9 @@ pub fn write_output<K: Sink, R: Threads + Wait + Sync, G: TurnGate + Sync>(
     ensures unwritten { IfErr result (λ _. K.seen sink.new ≡ K.seen sink.old) }
 {
     match asked.output {
-        Output::Report => {
-            let played = play(rt, alloc, asked.lanes, bytes, gate)?;
-            Ok(report(alloc, sink, played))
-        }
-        Output::Journal => {
-            let told = play(rt, alloc, asked.lanes, bytes, gate)?;
-            Ok(journal(alloc, sink, told))
+        Output::Report { watch, journal } => {
+            let played = play(rt, alloc, asked.lanes, watch, bytes, gate)?;
+            Ok(report(alloc, sink, journal, played))
         }
         Output::DueList => {
             let (_run, table) = take_table(alloc, bytes)?;
@@ -85,7 +85,8 @@ pub fn write_output<K: Sink, R: Threads + Wait + Sync, G: TurnGate + Sync>(
     }
 }
 
-/// Plays a run in a world of its replicas, free turns with this gate. It may wait.
+/// Plays a run in a world of its replicas, free turns with this gate, and looks at a board after them where that is asked
+/// for. It may wait.
 ///
 /// # Errors
 ///
@@ -94,6 +95,7 @@ pub fn play<R: Threads + Wait + Sync, G: TurnGate + Sync>(
     rt: &R,
     alloc: Global,
     lanes: u8,
+    watch: bool,
     bytes: &[u8],
     gate: &G,
 ) -> Result<Played, RunFault>
@@ -103,11 +105,22 @@ pub fn play<R: Threads + Wait + Sync, G: TurnGate + Sync>(
     ensures played { IfOk result IsPlayed }
     ensures starts { IfOk result (λ played. (run : IsRunOf bytes.now played.table played.book played.nodes.items)
         → HasStarts played.table run.run.commands played.book played.starts.items) }
+    ensures seen { IfOk result (λ played. (run : IsRunOf bytes.now played.table played.book played.nodes.items)
+        → HasWatched watch played.table run.run.commands played.book played.starts.items played.seen.items) }
     ensures refused { IfErr result (λ fault. IfRefused fault (IsRefusedAsRun bytes.now)) }
 {
     let (run, table) = take_table(alloc, bytes)?;
     let commands = run.commands.as_slice();
-    let (world, starts) = play_run(rt, alloc, &table, run.members, commands, lanes, gate)?;
+    let (world, starts, seen) = play_watched(
+        rt,
+        alloc,
+        &table,
+        run.members,
+        commands,
+        lanes,
+        gate,
+        watch,
+    )?;
     let (book, nodes) = world.into_book();
     Ok(Played {
         table,
@@ -115,39 +128,54 @@ pub fn play<R: Threads + Wait + Sync, G: TurnGate + Sync>(
         book,
         nodes,
         starts,
+        seen,
     })
 }
 
-// Writes the report of a run.
-fn report<K: Sink>(alloc: Global, sink: &mut K, played: Played) -> RunEnd
-    requires played { IsPlayed played }
-    ensures { (text : List ℕ) × IsBookReport played.table played.book text
-        × EndsRunText (K.seen sink.old) (K.seen sink.new) played.book played.nodes.items result text }
-{
-    let written = write_book_report(alloc, sink, &played.table, played.members, &played.book);
-    written_end(written, played)
-}
-
-// Writes the report of a run, and its journal behind it.
-fn journal<K: Sink>(alloc: Global, sink: &mut K, played: Played) -> RunEnd
+// Writes the report of a run, what was seen of a board, and then its journal where that is asked for.
+fn report<K: Sink>(alloc: Global, sink: &mut K, journal: bool, played: Played) -> RunEnd
     requires played { IsPlayed played }
     ensures { (front : List ℕ) × IsBookReport played.table played.book front
         × EndsRunText (K.seen sink.old) (K.seen sink.new) played.book played.nodes.items result
-        (front ++ journal_text played.table played.book.turns played.starts.items) }
+        (front ++ (watch_text played.seen.items ++ played_journal journal played)) }
 {
-    let written = write_both(alloc, sink, &played);
+    let written = write_texts(alloc, sink, journal, &played);
     written_end(written, played)
 }
 
-// Writes a report, and a journal behind it.
-fn write_both<K: Sink>(alloc: Global, sink: &mut K, played: &Played) -> Result<(), ReportFault>
+// Writes them, one after another.
+fn write_texts<K: Sink>(
+    alloc: Global,
+    sink: &mut K,
+    journal: bool,
+    played: &Played,
+) -> Result<(), ReportFault>
     requires played { IsPlayed played.now }
     ensures { (front : List ℕ) × IsBookReport played.now.table played.now.book front
         × Writes (K.seen sink.old) (K.seen sink.new) result
-        (front ++ journal_text played.now.table played.now.book.turns played.now.starts.items) }
+        (front ++ (watch_text played.now.seen.items ++ played_journal journal played.now)) }
 {
     write_book_report(alloc, sink, &played.table, played.members, &played.book)?;
-    write_journal(alloc, sink, &played.table, &played.book, &played.starts)
+    write_rest(alloc, sink, journal, played)
+}
+
+// Writes what was seen of a board, and then the journal where that is asked for.
+fn write_rest<K: Sink>(
+    alloc: Global,
+    sink: &mut K,
+    journal: bool,
+    played: &Played,
+) -> Result<(), ReportFault>
+    requires played { IsPlayed played.now }
+    ensures { Writes (K.seen sink.old) (K.seen sink.new) result
+        (watch_text played.now.seen.items ++ played_journal journal played.now) }
+{
+    write_watch(alloc, sink, &played.seen)?;
+    if journal {
+        write_journal(alloc, sink, &played.table, &played.book, &played.starts)
+    } else {
+        Ok(())
+    }
 }
 
 /// The end of a program that wrote a text of a run.

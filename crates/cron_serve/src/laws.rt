@@ -1,5 +1,5 @@
 //! Laws of the program's ends. Each is the contract of a function that does nothing.
-ghost use Rattle.std.specs.Prelude.{◌≡◌, ◌≢◌, ◌⊎◌, ◌≤◌, [], ◌∷◌, ◌++◌, ℕ, ℤ, ◌<ℤ◌, List, Some, true, length, IsSomeAnd, Contains, codes, decimal, slice_get};
+ghost use Rattle.std.specs.Prelude.{◌≡◌, ◌≢◌, ◌⊎◌, ◌≤◌, [], ◌∷◌, ◌++◌, ℕ, ℤ, ◌<ℤ◌, List, Some, false, true, length, IsSomeAnd, Contains, codes, decimal, slice_get};
 ghost use Rattle.cron_io.specs.Faults.{Rose};
 ghost use Rattle.cron_io.specs.Reading.{HasTakenBytes};
 ghost use Rattle.cron_io.specs.Views.{SourceView, SinkView};
@@ -18,6 +18,7 @@ ghost use Rattle.due_set.specs.Table.{Job, Table, IsJobDue};
 ghost use Rattle.due_set.specs.declared.job.JobKind.TheVariants.{Anacron};
 ghost use Rattle.due_set.specs.declared.job.Period.{Period};
 ghost use Rattle.cluster_sched.specs.declared.row.SchedRow.{SchedRow};
+ghost use Rattle.agreement.specs.Transition.{identity_of};
 ghost use Rattle.launch_safety.specs.Fits.{HasStart, HasEnd, IsBacked, IsEffective, IsHeld};
 ghost use Rattle.launch_safety.specs.Launched.{IsCalledAt, IsWanted, LaunchesEachDue, OpensBy};
 ghost use Rattle.launch_machine.specs.Clerk.{IsClerkOf};
@@ -48,12 +49,12 @@ ghost use Rattle.cron_serve.specs.declared.words.Choice.{Choice};
 ghost use Rattle.cron_serve.specs.declared.words.Output.{Output};
 ghost use Rattle.cron_serve.specs.declared.run_end.RunEnd.{RunEnd};
 
-/// **The report is promised.** If the program was asked for the report and ended with status 0, the input was read, it is a run with a
+/// **The report is promised.** If the program was asked for the report alone and ended with status 0, the input was read, it is a run with a
 /// table, and the sink gained the report of its launches: each stands there once, each due instant was launched or given up, no other
 /// instant of a crontab's job is there, and if grace lasts as long as the window, or the script has no command, each was launched.
 pub fn a_report_tells_of_each_launch()
     ensures { (source source' : SourceView) (sink sink' notes notes' : SinkView) (status : ℕ)
-        → EndsProgram Output.Report source source' sink sink' notes notes' status → status ≡ 0 → ReportsInput source source' sink sink' }
+        → EndsProgram (Output.Report false false) source source' sink sink' notes notes' status → status ≡ 0 → ReportsInput source source' sink sink' }
 {}
 
 /// What the exit status of a program says that was asked for something. 0: the text was written, whole. 2: the input is refused, for
@@ -96,22 +97,25 @@ pub fn the_bytes_decide_the_status()
         → (status ≡ 0) ⊎ (status ≡ 5) }
 {}
 
-/// Words ask for one thing at most: without a word for the report, by `--journal` for the journal behind it, by
-/// `--list` for the due instants, by `--check` for the check of the tables, by `--make` for the summary of the run that
-/// a seed makes, and by `--lanes` in front of these or behind them for a number of lanes. Options that may not stand
-/// together ask for nothing, nor does any other word.
+/// Words ask for one text at most: without a word for the report, by `--watch` for what was seen of the board after it, by `--journal`
+/// for the journal after these, by `--list` for the due instants, by `--check` for the check of the tables, by `--make` for the summary
+/// of the run that a seed makes, and by `--lanes` before or after these for a number of lanes. Options that may not stand together ask
+/// for nothing, nor does any other word.
 pub fn words_ask_for_one_text()
     ensures one { (words : List (List ℕ)) (a b : Asked) → Asks words a → Asks words b → a ≡ b }
     ensures none { (words : List (List ℕ)) (asked : Asked) → Asks words asked → HasNoOptions words → ⊥ }
     ensures lanes { (words : List (List ℕ)) (asked : Asked) → Asks words asked → (1 ≤ asked.lanes) × (asked.lanes ≤ 8) }
-    ensures report { (asked : Asked) → asked.output ≡ Output.Report → asked.lanes ≡ 1 → Asks [] asked }
+    ensures report { (asked : Asked) → asked.output ≡ Output.Report false false → asked.lanes ≡ 1 → Asks [] asked }
     ensures list { (asked : Asked) → asked.output ≡ Output.DueList → asked.lanes ≡ 1 → Asks (codes "--list" ∷ []) asked }
     ensures check { (asked : Asked) → asked.output ≡ Output.Check → asked.lanes ≡ 1 → Asks (codes "--check" ∷ []) asked }
-    ensures journal { (asked : Asked) → asked.output ≡ Output.Journal → asked.lanes ≡ 1 → Asks (codes "--journal" ∷ []) asked }
+    ensures journal { (asked : Asked) → asked.output ≡ Output.Report false true → asked.lanes ≡ 1 → Asks (codes "--journal" ∷ []) asked }
+    ensures watch { (asked : Asked) → asked.output ≡ Output.Report true false → asked.lanes ≡ 1 → Asks (codes "--watch" ∷ []) asked }
+    ensures both { (asked : Asked) → asked.output ≡ Output.Report true true → asked.lanes ≡ 1
+        → Asks (codes "--watch" ∷ codes "--journal" ∷ []) asked × Asks (codes "--journal" ∷ codes "--watch" ∷ []) asked }
     ensures make { (asked : Asked) (seed : ℕ) (own : List (List ℕ)) → seed ≤ 4_294_967_295 → IsNameWithValue (codes "--make") (decimal seed) own
         → asked.output ≡ Output.Summary seed → asked.lanes ≡ 1 → Asks own asked }
     ensures on_lanes { (asked : Asked) (own : List (List ℕ)) → 1 ≤ asked.lanes → asked.lanes ≤ 8
-        → IsNameWithValue (codes "--lanes") (decimal asked.lanes) own → asked.output ≡ Output.Report → Asks own asked }
+        → IsNameWithValue (codes "--lanes") (decimal asked.lanes) own → asked.output ≡ Output.Report false false → Asks own asked }
     ensures list_on_lanes { (asked : Asked) (own : List (List ℕ)) → 1 ≤ asked.lanes → asked.lanes ≤ 8
         → IsNameWithValue (codes "--lanes") (decimal asked.lanes) own → asked.output ≡ Output.DueList
         → Asks (codes "--list" ∷ own) asked × Asks (own ++ codes "--list" ∷ []) asked }
@@ -119,15 +123,18 @@ pub fn words_ask_for_one_text()
         → IsNameWithValue (codes "--lanes") (decimal asked.lanes) own → asked.output ≡ Output.Check
         → Asks (codes "--check" ∷ own) asked × Asks (own ++ codes "--check" ∷ []) asked }
     ensures journal_on_lanes { (asked : Asked) (own : List (List ℕ)) → 1 ≤ asked.lanes → asked.lanes ≤ 8
-        → IsNameWithValue (codes "--lanes") (decimal asked.lanes) own → asked.output ≡ Output.Journal
+        → IsNameWithValue (codes "--lanes") (decimal asked.lanes) own → asked.output ≡ Output.Report false true
         → Asks (codes "--journal" ∷ own) asked × Asks (own ++ codes "--journal" ∷ []) asked }
+    ensures watch_on_lanes { (asked : Asked) (own : List (List ℕ)) → 1 ≤ asked.lanes → asked.lanes ≤ 8
+        → IsNameWithValue (codes "--lanes") (decimal asked.lanes) own → asked.output ≡ Output.Report true false
+        → Asks (codes "--watch" ∷ own) asked × Asks (own ++ codes "--watch" ∷ []) asked }
     ensures make_on_lanes { (asked : Asked) (seed : ℕ) (own other : List (List ℕ)) → 1 ≤ asked.lanes → asked.lanes ≤ 8
         → IsNameWithValue (codes "--lanes") (decimal asked.lanes) own → seed ≤ 4_294_967_295 → IsNameWithValue (codes "--make") (decimal seed) other
         → asked.output ≡ Output.Summary seed → Asks (other ++ own) asked × Asks (own ++ other) asked }
     ensures apart { (first second : Choice) (own other behind : List (List ℕ)) → IsSpelledBy first own → IsSpelledBy second other
         → (MayStandTogether first second → ⊥) → HasNoOptions (own ++ (other ++ behind)) }
     ensures others { (word : List ℕ) (words : List (List ℕ)) → word ≢ codes "--list" → word ≢ codes "--check" → word ≢ codes "--journal"
-        → word ≢ codes "--lanes" → ((lanes : ℕ) → 1 ≤ lanes → lanes ≤ 8 → word ≢ codes "--lanes" ++ codes "=" ++ decimal lanes)
+        → word ≢ codes "--watch" → word ≢ codes "--lanes" → ((lanes : ℕ) → 1 ≤ lanes → lanes ≤ 8 → word ≢ codes "--lanes" ++ codes "=" ++ decimal lanes)
         → word ≢ codes "--make" → ((seed : ℕ) → seed ≤ 4_294_967_295 → word ≢ codes "--make" ++ codes "=" ++ decimal seed)
         → HasNoOptions (word ∷ words) }
 {}
@@ -191,11 +198,14 @@ pub fn a_run_without_commands_launches_each_due_instant()
         → run.run.commands ≡ [] → LaunchesEachDue table book.ledger.held }
 {}
 
-/// What a run leaves of its replicas: a node of each, which keeps what its replica keeps. What the files of its disk have stands for that,
-/// and so does whatever a stop would leave of the disk. Each that runs at the end has a launch table, which is the clerk's of the whole log.
+/// What a run leaves of its replicas: a node of each, by its number, which keeps what its replica keeps. What the files of its disk have
+/// stands for that, and so does whatever a stop would leave of the disk. Each that runs at the end has a launch table, which is the
+/// clerk's of the whole log.
 pub fn a_run_leaves_its_nodes()
     ensures count { (bytes : List ℕ) (table : Table) (book : BookState) (nodes : List (Node MemDisk)) (run : IsRunOf bytes table book nodes)
         → length nodes ≡ run.run.members }
+    ensures identity { (bytes : List ℕ) (table : Table) (book : BookState) (nodes : List (Node MemDisk)) (run : IsRunOf bytes table book nodes) (who : ℕ)
+        (node : Node MemDisk) → slice_get nodes who ≡ Some node → (replica_of node).identity ≡ identity_of run.run.members who }
     ensures kept { (bytes : List ℕ) (table : Table) (book : BookState) (nodes : List (Node MemDisk)) (run : IsRunOf bytes table book nodes) (who : ℕ)
         (node : Node MemDisk) → slice_get nodes who ≡ Some node
         → (replica_of node).state.kept ≡ ((standing_behind table run.rows book).replicas who).kept }

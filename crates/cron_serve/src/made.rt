@@ -52,7 +52,7 @@ fn play_made<R: Threads + Wait + Sync, G: TurnGate + Sync>(
     ensures played { IfOk result IsPlayed }
 {
     let text = make_run(alloc, seed)?;
-    match play(rt, alloc, lanes, text.as_bytes(), gate) {
+    match play(rt, alloc, lanes, false, text.as_bytes(), gate) {
         Ok(played) => Ok(played),
         Err(RunFault::OutOfMemory) => Err(OutOfMemory),
         Err(RunFault::Refused(_)) => unreachable!(),

@@ -1,5 +1,5 @@
 //! The whole program, over what the system hands to it.
-ghost use Rattle.std.specs.Prelude.{◌≡◌, ◌≢◌, ◌↔◌, IfOk, IfErr};
+ghost use Rattle.std.specs.Prelude.{◌≡◌, ◌≢◌, ◌↔◌, IfOk, IfErr, false};
 ghost use Rattle.cron_io.specs.Views.{SourceView, SinkView};
 ghost use Rattle.std.specs.IoError.{error_kind};
 ghost use Rattle.std.specs.Vec.Iter.{into_iter_items};
@@ -34,9 +34,9 @@ pub fn run<S: Source, K: Sink, E: Sink, R: Threads + Wait + Sync, G: TurnGate + 
     notes: &mut E,
     gate: &G,
 ) -> u8
-    // **If the words ask for the report, status 0 says**: the input was read, it is a run, and the text gained is the report of its launches.
+    // **If the words ask for the report alone, status 0 says**: the input was read, it is a run, and the text gained is the report of its launches.
     ensures report { IfOk args (λ args. (asked : Asked) → Asks (behind_name (texts_of (into_iter_items args))) asked
-        → asked.output ≡ Output.Report → result ≡ 0
+        → asked.output ≡ Output.Report false false → result ≡ 0
         → ReportsInput (S.seen source.old) (S.seen source.new) (K.seen sink.old) (K.seen sink.new)) }
 
     // The status, the text that the words behind the name ask for, and the note are those of one end.

@@ -100,7 +100,7 @@ fn seed_of(output: Output) -> Option<u32>
 {
     match output {
         Output::Summary(seed) => Some(seed),
-        Output::Report | Output::Journal | Output::DueList | Output::Check => None,
+        Output::Report { .. } | Output::DueList | Output::Check => None,
     }
 }
 
@@ -127,9 +127,10 @@ fn serve<S: Source, K: Sink, R: Threads + Wait + Sync, G: TurnGate + Sync>(
 /// Reads a run file from the source, and writes to the sink what the words ask for. Without a word that is the report
 /// of the run's launches: a world of the run's replicas, each on an empty disk in memory, plays the commands of its
 /// script, and walks to the window's last minute; `--lanes` says in how many lanes, and the threads of each command `free`
-/// pass the gate. It may wait. `--journal` asks for the journal of the run's turns behind the report. `--list` asks for the due instants of the run's jobs, and `--check` for the lines
-/// of its tables that break a rule: no launch is made then. `--make` asks for the summary of the run that a seed makes:
-/// nothing is read then. A note of what went wrong goes to `notes`.
+/// pass the gate. It may wait. `--watch` asks for what is seen, after each command `free`, of a board of launches, and
+/// `--journal` for the journal of the run's turns; they follow the report in this order. `--list` asks for the due
+/// instants of the run's jobs, and `--check` for the lines of its tables that break a rule: no launch is made then. `--make`
+/// asks for the summary of the run that a seed makes: nothing is read then. A note of what went wrong goes to `notes`.
 pub fn cron_cluster<S: Source, K: Sink, E: Sink, R: Threads + Wait + Sync, G: TurnGate + Sync>(
     rt: &R,
     alloc: Global,

@@ -1,5 +1,5 @@
 //! The words of the command line.
-ghost use Rattle.std.specs.Prelude.{◌≡◌, ◌≢◌, ◌≤◌, ◌∷◌, ◌++◌, [], ℕ, List, None, Some, IfSome, IfNone, IsSome, AllPairs, codes, decimal, unwrap_or};
+ghost use Rattle.std.specs.Prelude.{◌≡◌, ◌≢◌, ◌≤◌, ◌⊎◌, ◌∷◌, ◌++◌, [], ℕ, List, None, Some, IfSome, IfNone, IsSome, AllPairs, codes, decimal, false, true, unwrap_or};
 ghost use Rattle.std.specs.Vec.Iter.{into_iter_items, into_iter_len};
 ghost use Rattle.cron_serve.specs.Words.{AreWishesOf, Asks, HasNoOptions, BeginsWith, IsSpelledBy, MayStandTogether, texts_of};
 
@@ -12,10 +12,13 @@ const MAX_LANES: u32 = 8;
 /// What the program writes.
 #[derive(Clone, Copy, Debug, PartialEq, Eq)]
 pub enum Output {
-    /// The report of the launches that the run makes.
-    Report,
-    /// That report, and behind it the journal of the run's turns.
-    Journal,
+    /// The report of the launches that the run makes, and after it what else is asked for of the run.
+    Report {
+        /// What was seen of the board of launches after each command `free`.
+        watch: bool,
+        /// The journal of the run's turns. It is the last.
+        journal: bool,
+    },
     /// The due instants of the run's jobs.
     DueList,
     /// The lines of the run's tables that break a rule.
@@ -40,8 +43,10 @@ pub enum Choice {
     List,
     /// `--check`: the check of the tables is wanted.
     Check,
-    /// `--journal`: the journal is wanted behind the report.
+    /// `--journal`: the journal is wanted after the report.
     Journal,
+    /// `--watch`: what is seen of the board of launches is wanted after the report.
+    Watch,
     /// `--make SEED` or `--make=SEED`: the summary of the run that this seed makes is wanted, 0 to 4,294,967,295.
     Make(u32),
     /// `--lanes N` or `--lanes=N`: so many lanes are wanted, 1 to 8.
@@ -60,6 +65,7 @@ impl Choice {
             "--list" => Some(Choice::List),
             "--check" => Some(Choice::Check),
             "--journal" => Some(Choice::Journal),
+            "--watch" => Some(Choice::Watch),
             "--lanes" => {
                 let value = words.next()?;
                 Some(Choice::Lanes(read_lanes(&value)?))
@@ -107,10 +113,13 @@ fn read_lanes(text: &str) -> Option<u8>
     }
 }
 
-// What the options in front of a word ask for.
+// What the options before a word ask for.
 #[derive(Clone, Copy)]
 struct Wishes {
-    output: Option<Output>,
+    // A text in place of a report.
+    text: Option<Output>,
+    watch: bool,
+    journal: bool,
     lanes: Option<u8>,
 }
 
@@ -122,46 +131,83 @@ impl Wishes {
             → AllPairs MayStandTogether (before ++ choice ∷ behind) → ⊥) }
     {
         match choice {
-            Choice::List => self.with_output(Output::DueList),
-            Choice::Check => self.with_output(Output::Check),
-            Choice::Journal => self.with_output(Output::Journal),
-            Choice::Make(seed) => self.with_output(Output::Summary(seed)),
+            Choice::List => self.with_text(Output::DueList),
+            Choice::Check => self.with_text(Output::Check),
+            Choice::Make(seed) => self.with_text(Output::Summary(seed)),
+            Choice::Journal => self.with_journal(),
+            Choice::Watch => self.with_watch(),
             Choice::Lanes(lanes) => self.with_lanes(lanes),
         }
     }
 
-    fn with_output(self, output: Output) -> Option<Wishes>
-        ensures some { IfSome result (λ wishes. (self.output ≡ None) × (wishes.output ≡ Some output) × (wishes.lanes ≡ self.lanes)) }
-        ensures none { IfNone result (IsSome self.output) }
+    // A text in place of a report, beside nothing that a report is asked for with.
+    fn with_text(self, text: Output) -> Option<Wishes>
+        ensures some { IfSome result (λ wishes. (self.text ≡ None) × (self.watch ≡ false) × (self.journal ≡ false)
+            × (wishes ≡ record self { text = Some text })) }
+        ensures none { IfNone result (IsSome self.text ⊎ (self.watch ≡ true) ⊎ (self.journal ≡ true)) }
     {
-        match self.output {
+        match self.text {
             Some(_) => None,
+            None if self.watch => None,
+            None if self.journal => None,
             None => Some(Wishes {
-                output: Some(output),
-                lanes: self.lanes,
+                text: Some(text),
+                ..self
+            }),
+        }
+    }
+
+    fn with_journal(self) -> Option<Wishes>
+        ensures some { IfSome result (λ wishes. (self.text ≡ None) × (self.journal ≡ false) × (wishes ≡ record self { journal = true })) }
+        ensures none { IfNone result (IsSome self.text ⊎ (self.journal ≡ true)) }
+    {
+        match self.text {
+            Some(_) => None,
+            None if self.journal => None,
+            None => Some(Wishes {
+                journal: true,
+                ..self
+            }),
+        }
+    }
+
+    fn with_watch(self) -> Option<Wishes>
+        ensures some { IfSome result (λ wishes. (self.text ≡ None) × (self.watch ≡ false) × (wishes ≡ record self { watch = true })) }
+        ensures none { IfNone result (IsSome self.text ⊎ (self.watch ≡ true)) }
+    {
+        match self.text {
+            Some(_) => None,
+            None if self.watch => None,
+            None => Some(Wishes {
+                watch: true,
+                ..self
             }),
         }
     }
 
     fn with_lanes(self, lanes: u8) -> Option<Wishes>
-        ensures some { IfSome result (λ wishes. (self.lanes ≡ None) × (wishes.lanes ≡ Some lanes) × (wishes.output ≡ self.output)) }
+        ensures some { IfSome result (λ wishes. (self.lanes ≡ None) × (wishes ≡ record self { lanes = Some lanes })) }
         ensures none { IfNone result (IsSome self.lanes) }
     {
         match self.lanes {
             Some(_) => None,
             None => Some(Wishes {
-                output: self.output,
                 lanes: Some(lanes),
+                ..self
             }),
         }
     }
 
     fn asked(self) -> Asked
-        ensures output { result.output ≡ unwrap_or self.output Output.Report }
+        ensures output { result.output ≡ unwrap_or self.text (Output.Report self.watch self.journal) }
         ensures lanes { result.lanes ≡ unwrap_or self.lanes 1 }
     {
+        let report = Output::Report {
+            watch: self.watch,
+            journal: self.journal,
+        };
         Asked {
-            output: self.output.unwrap_or(Output::Report),
+            output: self.text.unwrap_or(report),
             lanes: self.lanes.unwrap_or(1),
         }
     }
@@ -174,7 +220,9 @@ pub fn read_words(mut words: Args) -> Option<Asked>
     ensures none { IfNone result (HasNoOptions (texts_of (into_iter_items words))) }
 {
     let mut wishes = Wishes {
-        output: None,
+        text: None,
+        watch: false,
+        journal: false,
         lanes: None,
     };
     'words: while let Some(word) = words.next() {

@@ -179,11 +179,16 @@ one_start members table script rows a b x y =
 
 -- ---- of a book
 
+-- whichever rows stand behind a book, the parts of a script begin at the same numbers
+pub same_begin : (table : Table) (script : List Command) (book : BookState) (rows others : List Row) (a b : List ℕ) → StandsBehind table rows book → StandsBehind table others book
+    → BeginAt book.members table script rows a → BeginAt book.members table script others b → a ≡ b
+same_begin table script book rows others a b behind beside x y =
+    let turns : map (λ (row : Row). row.turn) rows ≡ map (λ (row : Row). row.turn) others = sym behind.turns ∙ beside.turns in
+    same_starts book.members table script rows others a b (twins_of_turns book.members table rows others behind.legal beside.legal turns) x y
+
 pub one_journal : (table : Table) (script : List Command) (book : BookState) (a b : List ℕ) → IsBookJournal table script book a → IsBookJournal table script book b → a ≡ b
 one_journal table script book a b x y =
-    let turns : map (λ (row : Row). row.turn) x.rows ≡ map (λ (row : Row). row.turn) y.rows = sym x.behind.turns ∙ y.behind.turns in
-    let twins = twins_of_turns book.members table x.rows y.rows x.behind.legal y.behind.legal turns in
-    let starts = same_starts book.members table script x.rows y.rows x.starts y.starts twins x.begin y.begin in
+    let starts = same_begin table script book x.rows y.rows x.starts y.starts x.behind y.behind x.begin y.begin in
     x.text_is ∙ ap (journal_text table book.turns) starts ∙ sym y.text_is
 
 pub book_there : (table : Table) (script : List Command) (book : BookState) (rows : List Row) → StandsBehind table rows book → Obeys book.members table script rows

@@ -1,5 +1,5 @@
 -- How the program ends over a source that is reliable and tells its bytes, and a sink that tells its room.
-use Rattle.std.proofs.Common.{◌≡◌, ◌≢◌, ◌⊎◌, inl, inr, ℕ, zero, suc, ◌≤◌, List, Option, Some, None, refl, subst, arith}
+use Rattle.std.proofs.Common.{◌≡◌, ◌≢◌, ◌⊎◌, inl, inr, ℕ, zero, suc, ◌≤◌, List, Option, Some, None, false, refl, subst, arith}
 use Rattle.std.specs.Prelude.{IsSome, IsSomeAnd}
 use Rattle.cron_io.specs.Faults.{Rose}
 use Rattle.cron_io.specs.Views.{SourceView, SinkView}
@@ -20,10 +20,10 @@ use Rattle.cron_serve.proofs.VerdictLemmas.{suits_or_refused}
 
 -- a report of the input is one of its bytes
 report_is : (source source' : SourceView) (bytes text : List ℕ) (book : BookState) (nodes : List (Node MemDisk)) → source.left ≡ Some bytes
-    → IsTextOfInput Report source source' book nodes text → IsReportOfRun bytes text
+    → IsTextOfInput (Report false false) source source' book nodes text → IsReportOfRun bytes text
 report_is source source' bytes text book nodes told input =
     let read : input.bytes ≡ bytes = read_whole source source' bytes input.bytes told input.given in
-    record { book = book; nodes = nodes; is = subst (λ (bs : List ℕ). IsReportOf bs book nodes text) read input.is }
+    record { book = book; nodes = nodes; is = subst (λ (bs : List ℕ). IsReportOf false false bs book nodes text) read input.is }
 
 -- a run that is taken isn't refused, and its report is written whole, or a write failed, or memory ran out
 abbrev AreLeft : ℕ → Type 0
@@ -38,10 +38,10 @@ are_left (suc (suc (suc (suc zero)))) small a b c = inl (inr (omega arith))
 are_left (suc (suc (suc (suc (suc k))))) small a b c = inr (omega arith)
 
 no_refusal : (source source' : SourceView) (bytes : List ℕ) (run : Run) (table : Table) (refusal : Option Refusal) → source.left ≡ Some bytes → IsRunWithTable bytes run table
-    → IsSomeAnd refusal (IsRefused Report source source') → ⊥
+    → IsSomeAnd refusal (IsRefused (Report false false) source source') → ⊥
 no_refusal source source' bytes run table None told taken refused = absurd refused
 no_refusal source source' bytes run table (Some refusal) told taken refused =
-    suits_or_refused Report bytes refusal (run, table, taken) (refused_input Report source source' bytes refusal told refused)
+    suits_or_refused (Report false false) bytes refusal (run, table, taken) (refused_input (Report false false) source source' bytes refusal told refused)
 
 -- an end over a source that is reliable and tells its bytes, and a sink that tells its room
 pub record EndsOverMemory (source source' : SourceView) (sink sink' : SinkView) (bytes : List ℕ) (room : ℕ) (end : RunEnd) : Type 0 where
@@ -49,7 +49,7 @@ pub record EndsOverMemory (source source' : SourceView) (sink sink' : SinkView) 
   pub has_room : sink.room ≡ Some room
   pub usage : end.status ≢ 1
   pub reliable : end.status ≢ 3
-  pub ends : Ends Report source source' sink sink' end
+  pub ends : Ends (Report false false) source source' sink sink' end
 
 module _ (source source' : SourceView) (sink sink' : SinkView) (bytes : List ℕ) (room : ℕ) (end : RunEnd)
     (over : EndsOverMemory source source' sink sink' bytes room end) (run : Run) (table : Table) (taken : IsRunWithTable bytes run table) where
@@ -91,7 +91,7 @@ refused_some : {T : Type 0} (o : Option T) (P : T → Type 0) → IsSomeAnd o P 
 refused_some None P some = absurd some
 refused_some (Some x) P some = refl
 
-pub ends_refused : (source source' : SourceView) (sink sink' : SinkView) (end : RunEnd) (P : Refusal → Type 0) → Ends Report source source' sink sink' end
+pub ends_refused : (source source' : SourceView) (sink sink' : SinkView) (end : RunEnd) (P : Refusal → Type 0) → Ends (Report false false) source source' sink sink' end
     → IsSomeAnd end.refusal P ⊎ (end.status ≡ 5) → (end.status ≡ 2) ⊎ (end.status ≡ 5)
 ends_refused source source' sink sink' end P ends (inl some) = inl (ends.refusal.0 (refused_some end.refusal P some))
 ends_refused source source' sink sink' end P ends (inr five) = inr five

@@ -1,5 +1,5 @@
 -- The length of a run's report, beside the room that a sink has. Private functions alone cite it.
-use Rattle.std.specs.Prelude.{ℕ, ◌<◌, ◌≤◌, List, length}
+use Rattle.std.specs.Prelude.{ℕ, ◌<◌, ◌≤◌, false, List, length}
 use Rattle.disk_model.specs.declared.mem_disk.MemDisk.{MemDisk}
 use Rattle.replica_node.specs.declared.node.Node.{Node}
 use Rattle.world_law.specs.Book.{BookState}
@@ -9,7 +9,7 @@ use Rattle.cron_serve.specs.Serve.{IsReportOf}
 pub record IsReportOfRun (bytes text : List ℕ) : Type 0 where
   pub book : BookState
   pub nodes : List (Node MemDisk)
-  pub is : IsReportOf bytes book nodes text
+  pub is : IsReportOf false false bytes book nodes text
 
 -- a report of the run has no more bytes than so many
 abbrev pub FitsRoom : List ℕ → ℕ → Type 0

@@ -28,7 +28,7 @@ fn play<R: Threads + Wait + Sync>(
     let bytes = input.as_bytes().to_vec(alloc)?;
     let mut source = ByteSource(MemSource::new(bytes, faults.reads.to_vec(alloc)?));
     let mut report = ByteSink(MemSink::new(alloc, 1 << 10, faults.writes.to_vec(alloc)?)?);
-    let mut notes = ByteSink(MemSink::new(alloc, 100, faults.notes.to_vec(alloc)?)?);
+    let mut notes = ByteSink(MemSink::new(alloc, 200, faults.notes.to_vec(alloc)?)?);
     let words = Vec::new(alloc).into_iter();
     let end = cron_cluster(
         rt,

@@ -1,5 +1,5 @@
 // A caller over memory, where only want of memory can stand between a run and its report.
-ghost use Rattle.std.specs.Prelude.{◌≡◌, ◌⊎◌, IfOk};
+ghost use Rattle.std.specs.Prelude.{◌≡◌, ◌⊎◌, IfOk, false};
 ghost use Rattle.due_set.specs.Table.{Table};
 ghost use Rattle.run_text.specs.Run.{Run};
 ghost use Rattle.service_tests.specs.OverMemory.{FitsRoom, IsBeyondRoom};
@@ -26,7 +26,7 @@ fn status_in_memory<R: Threads + Wait + Sync>(
         → (status ≡ 0) ⊎ (status ≡ 5)) }
     ensures exceeds { IfOk result (λ status. (run : Run) (table : Table) → IsRunWithTable bytes.items run table → IsBeyondRoom bytes.items room
         → (status ≡ 4) ⊎ (status ≡ 5)) }
-    ensures refused { IfOk result (λ status. (Suits Output.Report bytes.items → ⊥) → (status ≡ 2) ⊎ (status ≡ 5)) }
+    ensures refused { IfOk result (λ status. (Suits (Output.Report false false) bytes.items → ⊥) → (status ≡ 2) ⊎ (status ≡ 5)) }
 {
     let mut source = MemSource::new(bytes, Vec::new(alloc));
     let mut sink = MemSink::new(alloc, room, Vec::new(alloc))?;
@@ -44,7 +44,7 @@ fn status_with_room<R: Threads + Wait + Sync>(
     alloc: Global,
     room: u32,
 ) -> Result<u8, Fail> {
-    let mut notes = MemSink::new(alloc, 100, Vec::new(alloc))?;
+    let mut notes = MemSink::new(alloc, 200, Vec::new(alloc))?;
     let bytes = Vec::from_slice(alloc, RUN.as_bytes())?;
     Ok(status_in_memory(rt, alloc, bytes, room, &mut notes)?)
 }

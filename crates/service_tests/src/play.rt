@@ -52,7 +52,7 @@ pub fn play_words<R: Threads + Wait + Sync>(
     let _name = args.next();
     let mut source = MemSource::new(input.to_vec(alloc)?, faults.reads.to_vec(alloc)?);
     let mut report = MemSink::new(alloc, 1 << 20, faults.writes.to_vec(alloc)?)?;
-    let mut notes = MemSink::new(alloc, 100, faults.notes.to_vec(alloc)?)?;
+    let mut notes = MemSink::new(alloc, 200, faults.notes.to_vec(alloc)?)?;
     let end = cron_cluster(
         rt,
         alloc,

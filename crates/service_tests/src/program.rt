@@ -40,7 +40,7 @@ pub fn play_past<R: Threads + Wait + Sync, G: TurnGate + Sync>(
     let bytes = input.as_bytes().to_vec(alloc)?;
     let mut source = MemSource::new(bytes, Vec::new(alloc));
     let mut report = MemSink::new(alloc, 1 << 11, writes.to_vec(alloc)?)?;
-    let mut notes = MemSink::new(alloc, 100, Vec::new(alloc))?;
+    let mut notes = MemSink::new(alloc, 200, Vec::new(alloc))?;
     let status = run(rt, alloc, args, &mut source, &mut report, &mut notes, gate);
     Ok(Left {
         status,

@@ -20,10 +20,30 @@ struct Row {
     lanes: u8,
 }
 
+const REPORT: Output = Output::Report {
+    watch: false,
+    journal: false,
+};
+
+const JOURNAL: Output = Output::Report {
+    watch: false,
+    journal: true,
+};
+
+const WATCH: Output = Output::Report {
+    watch: true,
+    journal: false,
+};
+
+const BOTH: Output = Output::Report {
+    watch: true,
+    journal: true,
+};
+
 const ASKED: &[Row] = &[
     Row {
         words: &[],
-        output: Output::Report,
+        output: REPORT,
         lanes: 1,
     },
     Row {
@@ -38,22 +58,22 @@ const ASKED: &[Row] = &[
     },
     Row {
         words: &["--lanes", "1"],
-        output: Output::Report,
+        output: REPORT,
         lanes: 1,
     },
     Row {
         words: &["--lanes", "8"],
-        output: Output::Report,
+        output: REPORT,
         lanes: 8,
     },
     Row {
         words: &["--lanes=1"],
-        output: Output::Report,
+        output: REPORT,
         lanes: 1,
     },
     Row {
         words: &["--lanes=8"],
-        output: Output::Report,
+        output: REPORT,
         lanes: 8,
     },
     Row {
@@ -78,17 +98,67 @@ const ASKED: &[Row] = &[
     },
     Row {
         words: &["--journal"],
-        output: Output::Journal,
+        output: JOURNAL,
         lanes: 1,
     },
     Row {
         words: &["--journal", "--lanes", "3"],
-        output: Output::Journal,
+        output: JOURNAL,
         lanes: 3,
     },
     Row {
         words: &["--lanes=3", "--journal"],
-        output: Output::Journal,
+        output: JOURNAL,
+        lanes: 3,
+    },
+    Row {
+        words: &["--watch"],
+        output: WATCH,
+        lanes: 1,
+    },
+    Row {
+        words: &["--watch", "--lanes", "3"],
+        output: WATCH,
+        lanes: 3,
+    },
+    Row {
+        words: &["--lanes", "3", "--watch"],
+        output: WATCH,
+        lanes: 3,
+    },
+    Row {
+        words: &["--watch", "--lanes=3"],
+        output: WATCH,
+        lanes: 3,
+    },
+    Row {
+        words: &["--lanes=3", "--watch"],
+        output: WATCH,
+        lanes: 3,
+    },
+    Row {
+        words: &["--watch", "--journal"],
+        output: BOTH,
+        lanes: 1,
+    },
+    Row {
+        words: &["--journal", "--watch"],
+        output: BOTH,
+        lanes: 1,
+    },
+    Row {
+        words: &["--watch", "--journal", "--lanes", "3"],
+        output: BOTH,
+        lanes: 3,
+    },
+    Row {
+        words: &["--journal", "--lanes=3", "--watch"],
+        output: BOTH,
+        lanes: 3,
+    },
+    Row {
+        words: &["--lanes=3", "--watch", "--journal"],
+        output: BOTH,
         lanes: 3,
     },
     Row {
@@ -207,6 +277,26 @@ const FAULTY: &[&[&str]] = &[
     &["--make=7", "--lanes", "2", "--make", "8"],
     &["--list", "--make=7"],
     &["--make", "7", "--check"],
+    // The board beside another text, or twice.
+    &["--watch="],
+    &["--watched"],
+    &["--watch", "7"],
+    &["--make", "--watch"],
+    &["--lanes", "--watch"],
+    &["--watch", "--watch"],
+    &["--watch", "--journal", "--watch"],
+    &["--journal", "--watch", "--journal"],
+    &["--lanes=2", "--watch", "--lanes=2"],
+    &["--watch", "--list"],
+    &["--list", "--watch"],
+    &["--watch", "--check"],
+    &["--check", "--watch"],
+    &["--watch", "--make", "7"],
+    &["--watch", "--make=7"],
+    &["--make", "7", "--watch"],
+    &["--make=7", "--watch"],
+    &["--journal", "--watch", "--list"],
+    &["--check", "--watch", "--journal"],
 ];
 
 #[test]

@@ -4,20 +4,21 @@ use Rattle.script_text.specs.declared.command.Command.{Command}
 use Rattle.world_law.specs.Book.{BookState}
 use Rattle.world_rounds.specs.World.{book_of}
 use Rattle.script_play.specs.Play.{AreMemNodesOf, HasRun, HasStarts, IsPlayable}
+use Rattle.cron_serve.specs.Played.{HasWatched}
 use Rattle.cron_serve.specs.Serve.{IsRunOf}
 use Rattle.cron_serve.proofs.PlayLemmas.{few_members, left_by_world, playable, some_members}
 use Rattle.cron_serve.proofs.ServeLemmas.{may_start}
 use Rattle.cron_serve.proofs.VerdictLemmas.{one_taken}
 use Rattle.cron_serve.proofs.answer.play.Goals as goal
 
-pub play_run-requires-clause-some : goal.play_run-requires-clause-some
-play_run-requires-clause-some g c = λ lives borrowed. some_members c.args.bytes.now (run_of c.in_ok-run.run') c.in_ok-run.table c.in_ok-run.ensures.taken
+pub play_watched-requires-clause-some : goal.play_watched-requires-clause-some
+play_watched-requires-clause-some g c = λ lives borrowed. some_members c.args.bytes.now (run_of c.in_ok-run.run') c.in_ok-run.table c.in_ok-run.ensures.taken
 
-pub play_run-requires-clause-few : goal.play_run-requires-clause-few
-play_run-requires-clause-few g c = λ lives borrowed. few_members c.args.bytes.now (run_of c.in_ok-run.run') c.in_ok-run.table c.in_ok-run.ensures.taken
+pub play_watched-requires-clause-few : goal.play_watched-requires-clause-few
+play_watched-requires-clause-few g c = λ lives borrowed. few_members c.args.bytes.now (run_of c.in_ok-run.run') c.in_ok-run.table c.in_ok-run.ensures.taken
 
-pub play_run-requires-clause-taken : goal.play_run-requires-clause-taken
-play_run-requires-clause-taken g c = λ lives borrowed.
+pub play_watched-requires-clause-taken : goal.play_watched-requires-clause-taken
+play_watched-requires-clause-taken g c = λ lives borrowed.
     subst (λ (l : List Command). All (IsPlayable c.in_ok-run.table.window c.in_ok-run.run'.members) l) (sym c.as_slice-commands.ensures.value)
     (playable c.args.bytes.now (run_of c.in_ok-run.run') c.in_ok-run.table c.in_ok-run.ensures.taken)
 
@@ -43,6 +44,18 @@ returns-clause-starts g c = λ left.
     subst (λ (l : List Command). HasStarts table l (book_of c.in_ok-world.world) starts) c.as_slice-commands.ensures.value c.in_ok-world.ensures.starts in
     subst (λ (r : Run). HasStarts table r.commands c.into_book-book.result.0 starts) same
     (subst (λ (b : BookState). HasStarts table run.commands b starts) (sym c.into_book-book.ensures.book) has)
+
+pub returns-clause-seen : goal.returns-clause-seen
+returns-clause-seen g c = λ left.
+    let run = run_of c.in_ok-run.run' in
+    let table = c.in_ok-run.table in
+    let starts = c.in_ok-world.starts.items in
+    let seen = c.in_ok-world.seen.items in
+    let same : run ≡ left.run = (one_taken c.args.bytes.now run left.run table table c.in_ok-run.ensures.taken left.taken).0 in
+    let has : HasWatched c.args.watch table run.commands (book_of c.in_ok-world.world) starts seen =
+    subst (λ (l : List Command). HasWatched c.args.watch table l (book_of c.in_ok-world.world) starts seen) c.as_slice-commands.ensures.value c.in_ok-world.ensures.seen in
+    subst (λ (r : Run). HasWatched c.args.watch table r.commands c.into_book-book.result.0 starts seen) same
+    (subst (λ (b : BookState). HasWatched c.args.watch table run.commands b starts seen) (sym c.into_book-book.ensures.book) has)
 
 pub returns-clause-played : goal.returns-clause-played
 returns-clause-played g c =

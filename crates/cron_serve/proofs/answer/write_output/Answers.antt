@@ -2,16 +2,16 @@ use Rattle.due_list.specs.CheckText.{IsCheckText}
 use Rattle.due_list.specs.DueText.{IsDueText}
 use Rattle.run_text.specs.Run.{run_of}
 use Rattle.cron_serve.specs.declared.words.Output.TheVariants.{DueList, Check}
-use Rattle.cron_serve.proofs.ServeLemmas.{ends_journal, ends_listing}
+use Rattle.cron_serve.proofs.ServeLemmas.{ends_listing, ends_report}
 use Rattle.cron_serve.proofs.answer.write_output.Goals as goal
 
-pub returns-in_ok-told-in-Journal-clause-end : goal.returns-in_ok-told-in-Journal-clause-end
-returns-in_ok-told-in-Journal-clause-end g c =
-    let (front, is, end) = c.journal.ensures in
-    let told = c.in_ok-told-in-Journal.told in
-    let run = c.in_ok-told-in-Journal.ensures.run in
-    rw c.in-Journal.is (ends_journal c.args.bytes.now _ _ told.table told.book told.nodes.items told.starts.items c.journal.result front
-    run (c.in_ok-told-in-Journal.ensures.starts run) is end)
+pub returns-in_ok-played-in-Report-clause-end : goal.returns-in_ok-played-in-Report-clause-end
+returns-in_ok-played-in-Report-clause-end g c =
+    let (front, is, end) = c.report.ensures in
+    let played = c.in_ok-played-in-Report.played in
+    let run = c.in_ok-played-in-Report.ensures.run in
+    rw c.in-Report.is (ends_report c.in-Report.watch c.in-Report.journal c.args.bytes.now _ _ played.table played.book played.nodes.items played.starts.items played.seen.items
+    c.report.result front run (c.in_ok-played-in-Report.ensures.starts run) (c.in_ok-played-in-Report.ensures.seen run) is end)
 
 pub returns-in_ok-_run-in-DueList-clause-end : goal.returns-in_ok-_run-in-DueList-clause-end
 returns-in_ok-_run-in-DueList-clause-end g c =

@@ -7,17 +7,15 @@ use Rattle.cron_serve.specs.Ends.{Ends}
 use Rattle.cron_serve.specs.Serve.{IsTextOfInput, LeavesNoRun}
 use Rattle.cron_serve.specs.declared.run_end.RunEnd.{RunEnd}
 use Rattle.cron_serve.specs.declared.words.Output.{Output}
-use Rattle.cron_serve.specs.declared.words.Output.TheVariants.{Report, Journal, DueList, Check, Summary}
+use Rattle.cron_serve.specs.declared.words.Output.TheVariants.{Report, DueList, Check, Summary}
 use Rattle.cron_serve.proofs.laws.a_listing_leaves_no_run.Goals as goal
 
 none_of_text : (output : Output) (source source' : SourceView) (book : BookState) (nodes : List (Node MemDisk)) (text : List ℕ) → (output ≡ DueList) ⊎ (output ≡ Check)
     → IsTextOfInput output source source' book nodes text → LeavesNoRun book nodes
 none_of_text DueList source source' book nodes text lists is = is.is.0
 none_of_text Check source source' book nodes text lists is = is.is.0
-none_of_text Report source source' book nodes text (inl e) is = absurd (cc)
-none_of_text Report source source' book nodes text (inr e) is = absurd (cc)
-none_of_text Journal source source' book nodes text (inl e) is = absurd (cc)
-none_of_text Journal source source' book nodes text (inr e) is = absurd (cc)
+none_of_text (Report watch journal) source source' book nodes text (inl e) is = absurd (cc)
+none_of_text (Report watch journal) source source' book nodes text (inr e) is = absurd (cc)
 none_of_text (Summary seed) source source' book nodes text (inl e) is = absurd (cc)
 none_of_text (Summary seed) source source' book nodes text (inr e) is = absurd (cc)
 

@@ -1,8 +1,11 @@
-use Rattle.cron_serve.proofs.NodeLemmas.{count_nodes, files_stand, follows_clerk, keeps, stops_stand}
+use Rattle.cron_serve.proofs.NodeLemmas.{count_nodes, files_stand, follows_clerk, is_of_number, keeps, stops_stand}
 use Rattle.cron_serve.proofs.laws.a_run_leaves_its_nodes.Goals as goal
 
 pub returns-clause-count : goal.returns-clause-count
 returns-clause-count c = count_nodes
+
+pub returns-clause-identity : goal.returns-clause-identity
+returns-clause-identity c = is_of_number
 
 pub returns-clause-kept : goal.returns-clause-kept
 returns-clause-kept c = keeps

@@ -13,6 +13,11 @@ returns c = record {
   list = λ asked output lanes. asks_alone choice.List _ asked refl output lanes;
   check = λ asked output lanes. asks_alone choice.Check _ asked refl output lanes;
   journal = λ asked output lanes. asks_alone choice.Journal _ asked refl output lanes;
+  watch = λ asked output lanes. asks_alone choice.Watch _ asked refl output lanes;
+  both = λ asked output lanes. (
+    asks_both choice.Watch choice.Journal (codes "--watch" ∷ []) (codes "--journal" ∷ []) asked refl refl tt (same_asked _ _ output lanes),
+    asks_both choice.Journal choice.Watch (codes "--journal" ∷ []) (codes "--watch" ∷ []) asked refl refl tt (same_asked _ _ output lanes),
+  );
   make = λ asked seed own most spelled output lanes. asks_alone (choice.Make seed) own asked (most, spelled) output lanes;
   on_lanes = λ asked own some most spelled output. asks_alone (choice.Lanes asked.lanes) own asked (some, most, spelled) output refl;
   list_on_lanes = λ asked own some most spelled output. (
@@ -27,16 +32,21 @@ returns c = record {
     asks_both choice.Journal (choice.Lanes asked.lanes) (codes "--journal" ∷ []) own asked refl (some, most, spelled) tt (same_asked _ _ output refl),
     asks_both (choice.Lanes asked.lanes) choice.Journal own (codes "--journal" ∷ []) asked (some, most, spelled) refl tt (same_asked _ _ output refl),
   );
+  watch_on_lanes = λ asked own some most spelled output. (
+    asks_both choice.Watch (choice.Lanes asked.lanes) (codes "--watch" ∷ []) own asked refl (some, most, spelled) tt (same_asked _ _ output refl),
+    asks_both (choice.Lanes asked.lanes) choice.Watch own (codes "--watch" ∷ []) asked (some, most, spelled) refl tt (same_asked _ _ output refl),
+  );
   make_on_lanes = λ asked seed own other some most spelled below made output. (
     asks_both (choice.Make seed) (choice.Lanes asked.lanes) other own asked (below, made) (some, most, spelled) tt (same_asked _ _ output refl),
     asks_both (choice.Lanes asked.lanes) (choice.Make seed) own other asked (some, most, spelled) (below, made) tt (same_asked _ _ output refl),
   );
   apart = asks_clash;
-  others = λ word words list check journal lanes with_lanes make with_seed.
+  others = λ word words list check journal watch lanes with_lanes make with_seed.
       asks_unknown word words (record {
         list = list;
         check = check;
         journal = journal;
+        watch = watch;
         lanes = lanes;
         make = make;
         with_lanes = with_lanes;

@@ -1,4 +1,4 @@
-use Rattle.std.proofs.Common.{ap, ◌∙◌, Some}
+use Rattle.std.proofs.Common.{ap, ◌∙◌, Some, false}
 use Rattle.cron_io.specs.Memory.{room_unless}
 use Rattle.cron_serve.specs.Input.{IsRefusedInput}
 use Rattle.cron_serve.specs.Words.{texts_of}
@@ -26,6 +26,6 @@ returns g c =
       fits = λ run table taken. ends_whole _ _ _ _ _ _ _ over_memory run table taken;
       exceeds = λ run table taken. ends_cut _ _ _ _ _ _ _ over_memory run table taken;
       refused = λ none.
-          ends_refused _ _ _ _ c.cron_cluster-end.result (IsRefusedInput Report c.args.bytes.items) (end.ends _ asked)
+          ends_refused _ _ _ _ c.cron_cluster-end.result (IsRefusedInput (Report false false) c.args.bytes.items) (end.ends _ asked)
           ((end.complete _ asked).others _ (ap Some source.left) none (not_risen _ _ (end.lasting sure).quiet source.faults));
     }

@@ -1,44 +1,62 @@
-use Rattle.std.proofs.Common.{ap, ◌∷◌, []}
-use Rattle.cron_serve.specs.Words.{output_of, lanes_of}
-use Rattle.cron_serve.specs.declared.words.Choice.{Choice}
-use Rattle.cron_serve.specs.declared.words.Output.TheVariants.{DueList, Check, Journal, Summary}
-use Rattle.cron_serve.proofs.WordLemmas.{lanes_more, no_lanes_more, no_output_more, output_more}
+use Rattle.std.proofs.Common.{refl}
+use Rattle.cron_serve.specs.declared.words.Choice.TheVariants as choice
+use Rattle.cron_serve.specs.declared.words.Output.TheVariants.{DueList, Check, Summary}
+use Rattle.cron_serve.proofs.WishLemmas.{clashes, goes_on, journal_clashes, lanes_clash, text_clashes, watch_clashes, with_journal, with_lanes, with_text, with_watch}
 use Rattle.cron_serve.proofs.words.Wishes.with.Goals as goal
 
 pub returns-in-List-clause-some : goal.returns-in-List-clause-some
 returns-in-List-clause-some c =
-    output_more c.args.choice DueList c.args.self c.with_output.result (ap (λ (x : Choice). output_of (x ∷ [])) c.in-List.is) (ap (λ (x : Choice). lanes_of (x ∷ [])) c.in-List.is) c.with_output.ensures.some
+    goes_on choice.List c.args.choice c.args.self c.with_text.result _ c.in-List.is
+    (λ new is. with_text choice.List DueList c.args.self new (record { asked = refl; no_lanes = refl; no_watch = refl; no_journal = refl }) is) c.with_text.ensures.some
 
 pub returns-in-List-clause-none : goal.returns-in-List-clause-none
 returns-in-List-clause-none c =
-    no_output_more c.args.choice c.args.self c.with_output.result (ap (λ (x : Choice). lanes_of (x ∷ [])) c.in-List.is) c.with_output.ensures.none
+    clashes choice.List c.args.choice c.args.self c.with_text.result _ c.in-List.is (text_clashes choice.List c.args.self refl) c.with_text.ensures.none
 
 pub returns-in-Check-clause-some : goal.returns-in-Check-clause-some
 returns-in-Check-clause-some c =
-    output_more c.args.choice Check c.args.self c.with_output-in-Check.result (ap (λ (x : Choice). output_of (x ∷ [])) c.in-Check.is) (ap (λ (x : Choice). lanes_of (x ∷ [])) c.in-Check.is) c.with_output-in-Check.ensures.some
+    goes_on choice.Check c.args.choice c.args.self c.with_text-in-Check.result _ c.in-Check.is
+    (λ new is. with_text choice.Check Check c.args.self new (record { asked = refl; no_lanes = refl; no_watch = refl; no_journal = refl }) is) c.with_text-in-Check.ensures.some
 
 pub returns-in-Check-clause-none : goal.returns-in-Check-clause-none
 returns-in-Check-clause-none c =
-    no_output_more c.args.choice c.args.self c.with_output-in-Check.result (ap (λ (x : Choice). lanes_of (x ∷ [])) c.in-Check.is) c.with_output-in-Check.ensures.none
-
-pub returns-in-Lanes-clause-some : goal.returns-in-Lanes-clause-some
-returns-in-Lanes-clause-some c = lanes_more c.args.choice c.in-Lanes.lanes c.args.self c.with_lanes.result c.in-Lanes.is c.with_lanes.ensures.some
-
-pub returns-in-Lanes-clause-none : goal.returns-in-Lanes-clause-none
-returns-in-Lanes-clause-none c = no_lanes_more c.args.choice c.in-Lanes.lanes c.args.self c.with_lanes.result c.in-Lanes.is c.with_lanes.ensures.none
-
-pub returns-in-Journal-clause-some : goal.returns-in-Journal-clause-some
-returns-in-Journal-clause-some c =
-    output_more c.args.choice Journal c.args.self c.with_output-in-Journal.result (ap (λ (x : Choice). output_of (x ∷ [])) c.in-Journal.is) (ap (λ (x : Choice). lanes_of (x ∷ [])) c.in-Journal.is) c.with_output-in-Journal.ensures.some
-
-pub returns-in-Journal-clause-none : goal.returns-in-Journal-clause-none
-returns-in-Journal-clause-none c =
-    no_output_more c.args.choice c.args.self c.with_output-in-Journal.result (ap (λ (x : Choice). lanes_of (x ∷ [])) c.in-Journal.is) c.with_output-in-Journal.ensures.none
+    clashes choice.Check c.args.choice c.args.self c.with_text-in-Check.result _ c.in-Check.is (text_clashes choice.Check c.args.self refl) c.with_text-in-Check.ensures.none
 
 pub returns-in-Make-clause-some : goal.returns-in-Make-clause-some
 returns-in-Make-clause-some c =
-    output_more c.args.choice (Summary c.in-Make.seed) c.args.self c.with_output-in-Make.result (ap (λ (x : Choice). output_of (x ∷ [])) c.in-Make.is) (ap (λ (x : Choice). lanes_of (x ∷ [])) c.in-Make.is) c.with_output-in-Make.ensures.some
+    let seed = c.in-Make.seed in
+    goes_on (choice.Make seed) c.args.choice c.args.self c.with_text-in-Make.result _ c.in-Make.is
+    (λ new is. with_text (choice.Make seed) (Summary seed) c.args.self new (record { asked = refl; no_lanes = refl; no_watch = refl; no_journal = refl }) is)
+    c.with_text-in-Make.ensures.some
 
 pub returns-in-Make-clause-none : goal.returns-in-Make-clause-none
 returns-in-Make-clause-none c =
-    no_output_more c.args.choice c.args.self c.with_output-in-Make.result (ap (λ (x : Choice). lanes_of (x ∷ [])) c.in-Make.is) c.with_output-in-Make.ensures.none
+    let seed = c.in-Make.seed in
+    clashes (choice.Make seed) c.args.choice c.args.self c.with_text-in-Make.result _ c.in-Make.is (text_clashes (choice.Make seed) c.args.self refl)
+    c.with_text-in-Make.ensures.none
+
+pub returns-in-Journal-clause-some : goal.returns-in-Journal-clause-some
+returns-in-Journal-clause-some c =
+    goes_on choice.Journal c.args.choice c.args.self c.with_journal.result _ c.in-Journal.is (with_journal c.args.self) c.with_journal.ensures.some
+
+pub returns-in-Journal-clause-none : goal.returns-in-Journal-clause-none
+returns-in-Journal-clause-none c =
+    clashes choice.Journal c.args.choice c.args.self c.with_journal.result _ c.in-Journal.is (journal_clashes c.args.self) c.with_journal.ensures.none
+
+pub returns-in-Watch-clause-some : goal.returns-in-Watch-clause-some
+returns-in-Watch-clause-some c =
+    goes_on choice.Watch c.args.choice c.args.self c.with_watch.result _ c.in-Watch.is (with_watch c.args.self) c.with_watch.ensures.some
+
+pub returns-in-Watch-clause-none : goal.returns-in-Watch-clause-none
+returns-in-Watch-clause-none c =
+    clashes choice.Watch c.args.choice c.args.self c.with_watch.result _ c.in-Watch.is (watch_clashes c.args.self) c.with_watch.ensures.none
+
+pub returns-in-Lanes-clause-some : goal.returns-in-Lanes-clause-some
+returns-in-Lanes-clause-some c =
+    let lanes = c.in-Lanes.lanes in
+    goes_on (choice.Lanes lanes) c.args.choice c.args.self c.with_lanes.result _ c.in-Lanes.is (with_lanes lanes c.args.self) c.with_lanes.ensures.some
+
+pub returns-in-Lanes-clause-none : goal.returns-in-Lanes-clause-none
+returns-in-Lanes-clause-none c =
+    let lanes = c.in-Lanes.lanes in
+    clashes (choice.Lanes lanes) c.args.choice c.args.self c.with_lanes.result _ c.in-Lanes.is (lanes_clash lanes c.args.self) c.with_lanes.ensures.none

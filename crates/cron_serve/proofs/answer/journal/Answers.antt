@@ -1,8 +1,0 @@
-use Rattle.cron_serve.proofs.ServeLemmas.{run_ended}
-use Rattle.cron_serve.proofs.answer.journal.Goals as goal
-
-pub returns : goal.returns
-returns g c =
-    let (text, is, writes) = c.write_both-written.ensures in
-    let end = c.written_end.ensures in
-    (text, is, run_ended _ _ c.write_both-written.result _ _ c.written_end.result _ end.status end.book end.nodes end.refusal writes)
