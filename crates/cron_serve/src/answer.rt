@@ -1,6 +1,5 @@
 //! What is written of an input that was read, and how its run, or one that was made, is played.
-ghost use Rattle.std.specs.Prelude.{◌≡◌, ◌++◌, ◌<◌, ◌≤◌, [], All, List, ℕ, false, if◌then◌else◌, length, None, IfOk, IfErr, true};
-ghost use Rattle.due_set.specs.Table.{Table};
+ghost use Rattle.std.specs.Prelude.{◌≡◌, ◌++◌, ◌<◌, ◌≤◌, List, ℕ, length, None, IfOk, IfErr};
 ghost use Rattle.report_text.specs.Book.{IsBookReport};
 ghost use Rattle.report_text.specs.Writes.{Writes};
 ghost use Rattle.run_text.specs.Steps.{IfRefused};

@@ -1,5 +1,5 @@
 //! How a run is played that is watched, and the lines of what was seen then.
-ghost use Rattle.std.specs.Prelude.{◌≡◌, ◌++◌, ◌<◌, ◌≤◌, [], ◌∷◌, All, OnOk, IfOk, length, string_bytes};
+ghost use Rattle.std.specs.Prelude.{◌≡◌, ◌++◌, ◌<◌, ◌≤◌, [], ◌∷◌, All, OnOk, IfOk, string_bytes};
 ghost use Rattle.report_text.specs.Writes.{Writes};
 ghost use Rattle.script_play.specs.Play.{HasRun, HasStarts, IsPlayable};
 ghost use Rattle.world_rounds.specs.World.{book_of};
