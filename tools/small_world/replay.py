@@ -55,16 +55,20 @@ class Replay(Recorded):
         for number, line in enumerate(lines, first):
             if line.startswith("command "):
                 self.take_part(number, line)
-                continue
-            try:
-                self.play_line(line)
-            except (AttributeError, IndexError, KeyError, TypeError, ValueError) as fault:
-                raise BadJournal(f"line {number} of the journal is no line of this run: {line}") from fault
-            if turn_line(self.run, len(self.turns) - 1, self.turns[-1]) != line:
-                raise BadJournal(f"line {number} of the journal is no turn of this run: {line}")
+            else:
+                self.take_line(number, line)
         if len(self.parts) != len(self.run.script) + 1:
             raise BadJournal("the journal lacks a command of the script")
         return self
+
+    def take_line(self, number, line):
+        """Plays the turn of the line of that number, which has to be that of a turn that may come next."""
+        try:
+            self.play_line(line)
+        except (AttributeError, IndexError, KeyError, TypeError, ValueError) as fault:
+            raise BadJournal(f"line {number} of the journal is no line of this run: {line}") from fault
+        if turn_line(self.run, len(self.turns) - 1, self.turns[-1]) != line:
+            raise BadJournal(f"line {number} of the journal is no turn of this run: {line}")
 
     def may_stop(self, who):
         return self.told_end is not None
@@ -87,6 +91,8 @@ class Replay(Recorded):
         if word != "arrive" and self.runs[int(who)] == (word == "restart"):
             raise ValueError("it runs already, or is stopped")
         if word == "arrive":
+            if int(words[0]) in self.ledger.arrived:
+                raise ValueError("the late call has arrived")
             self.arrive(int(words[0]))
         elif word == "restart":
             self.restart(int(who))
@@ -103,6 +109,8 @@ class Replay(Recorded):
     def operand(self, who, word, words):
         """What a turn is about. A letter that is to be heard comes to the front of the mail."""
         if word == "tick":
+            if not self.run.first <= minute_of(words[0]) < self.run.end:
+                raise ValueError("no clock reads so")
             return minute_of(words[0])
         if word == "hear":
             if self.letters[int(words[0])].to != who:

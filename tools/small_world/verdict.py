@@ -5,7 +5,8 @@ import re
 from .texts import turn_line
 from .world import World
 
-OWNER = re.compile(r"\d+ (\d+) ")
+# The replica of a turn; a number of more digits is no replica's.
+OWNER = re.compile(r"\d+ (\d{1,9}) ")
 END = "end"
 
 
