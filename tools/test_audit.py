@@ -4,9 +4,11 @@ run, a report and a journal. What has to come was worked out by hand.
 
 Usage: tools/test_audit.py [NAME..]
 """
+import random
 import unittest
 
 from small_world.audit import BAD_LINE, MISSING, NOT_LEGAL, NOT_OBEYED, OTHER_REPORT, answer, audit, is_too_long, is_turn, split
+from small_world.damaged import damaged, told_of
 from small_world.free import Order
 from small_world.known import AT_ONE, FOUR_HOURS, KNOWN, run_file
 from small_world.made import break_run, free_run, script_run
@@ -243,6 +245,28 @@ class Made(unittest.TestCase):
                 self.assertEqual(answer(joined(make(seed), written(make(seed), seed))), "audit yes\n", (make.__name__, seed))
         for name, text, _ in KNOWN[4:]:
             self.assertIsNone(audit(joined(text, written(text))), name)
+
+    def test_damage_is_found(self):
+        """Of a run in rounds, once its journal alone is damaged, the first line that was changed is at fault."""
+        text = script(f"campaign 0; break 1 2 1; fate 0 late; round {ONE} 5; stop 0; restart 1; campaign 1; arrive 0; round {ONE} 3")
+        told = told_of(text, "".join(f"{line}\n" for line in written(text)))
+        before, whys = told.content().split(b"\n"), set()
+        for seed in SEEDS:
+            for content in damaged(random.Random(seed), told, told):
+                line, why = audit(content)
+                whys.add(why)
+                lines = content.split(b"\n")
+                first = next((number for number, (old, new) in enumerate(zip(before, lines)) if old != new), len(lines) - 1)
+                if first >= text.count("\n") + len(told.report):
+                    self.assertEqual(line, first + 1 - text.count("\n"))
+        self.assertEqual(whys, {BAD_LINE, NOT_LEGAL, NOT_OBEYED, MISSING, OTHER_REPORT})
+
+    def test_damage_comes_of_its_seed(self):
+        text = script(f"campaign 0; round {ONE} 5")
+        told = told_of(text, "".join(f"{line}\n" for line in written(text)))
+        twice = [damaged(random.Random(3), told, told) for _ in range(2)]
+        self.assertEqual(*twice)
+        self.assertNotIn(told.content(), twice[0])
 
 
 if __name__ == "__main__":
