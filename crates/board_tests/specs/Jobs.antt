@@ -7,4 +7,4 @@ use Rattle.board_tests.specs.declared.job.Job.{Job}
 -- the job's writer or reader is one of a board for the table, which has a job
 pub record IsFor (table : Table) (job : Job) : Type 0 where
   pub writer : IfSome job.writer (λ writer. StandsFor table writer.machine × (writer.ready ≡ true))
-  pub reader : IfSome job.reader (λ reader. 0 < reader.jobs)
+  pub reader : IfSome job.reader (λ reader. 0 < reader.total)

@@ -5,11 +5,18 @@ ghost use Rattle.due_set.specs.Table.{IsAnacron};
 use cron_fields::{FieldKind, FieldSet, Fields, HashSeed, read_field};
 use cron_io::OutOfMemory;
 use due_set::{JobKind, JobSpec, JobTable};
+use paxos_base::TableSize;
 use std::alloc::Global;
 use zone_minutes::{Minute, Window};
 
 /// 2024-03-31T00:00Z.
 pub const FROM: i64 = 28_530_720;
+
+/// How large its table is.
+pub const SIZE: TableSize = TableSize {
+    jobs: 1,
+    last_version: 0,
+};
 
 const HOUR: Window = Window {
     from: Minute(FROM),

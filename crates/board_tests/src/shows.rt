@@ -3,7 +3,7 @@ ghost use Rattle.std.specs.Prelude.{◌≡◌, ◌<◌, IfOk, true};
 ghost use Rattle.launch_machine.specs.Machine.{StandsFor};
 ghost use Rattle.status_board.specs.Writing.{sight_of};
 
-use crate::hour::{FROM, hour_table};
+use crate::hour::{FROM, SIZE, hour_table};
 use crate::writes::{Told, learn_all};
 use due_set::JobTable;
 use learner_core::Learnt;
@@ -22,9 +22,9 @@ pub struct Seen {
 
 /// What the reader sees now.
 pub fn look<R: Wait>(rt: &R, reader: BoardReader) -> (Seen, BoardReader)
-    requires { 0 < reader.jobs }
+    requires { 0 < reader.total }
     ensures board { result.1.board ≡ reader.board }
-    ensures jobs { result.1.jobs ≡ reader.jobs }
+    ensures total { result.1.total ≡ reader.total }
 {
     let view = reader.view(rt);
     let seen = Seen {
@@ -91,7 +91,7 @@ fn launch<R: Wait>(
     mut writer: BoardWriter,
     reader: BoardReader,
 ) -> (BoardWriter, Option<(Seen, Seen, Seen)>)
-    requires jobs { 0 < reader.jobs }
+    requires total { 0 < reader.total }
     requires table { StandsFor table.now writer.machine }
     requires ready { writer.ready ≡ true }
     requires board { reader.board ≡ writer.board }
@@ -114,7 +114,7 @@ fn snapshot<R: Wait>(
     mut writer: BoardWriter,
     reader: BoardReader,
 ) -> (BoardWriter, Option<Seen>)
-    requires jobs { 0 < reader.jobs }
+    requires total { 0 < reader.total }
     requires table { StandsFor table.now writer.machine }
     requires ready { writer.ready ≡ true }
     requires board { reader.board ≡ writer.board }
@@ -179,7 +179,7 @@ fn a_launch_is_seen_once_it_is_published(rt: HostRuntime) -> Result<(), Fail> {
 fn a_snapshot_is_seen_once_it_is_published(rt: HostRuntime) -> Result<(), Fail> {
     let table = hour_table(rt.alloc())?;
     assert_eq!(rt; table.jobs(), 1);
-    let mut rows = RowList::fresh(rt.alloc(), 1)?;
+    let mut rows = RowList::fresh(rt.alloc(), SIZE)?;
     rows.items[0] = LAUNCHED;
     let (writer, reader) = start(&rt, rt.alloc(), &table)?;
     let (writer, seen) = snapshot(&rt, &table, &rows, writer, reader);

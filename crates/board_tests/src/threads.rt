@@ -5,7 +5,7 @@ ghost use Rattle.launch_machine.specs.Machine.{StandsFor};
 ghost use Rattle.status_board.specs.Writing.{sight_of};
 ghost use Rattle.board_tests.specs.Jobs.{IsFor};
 
-use crate::hour::hour_table;
+use crate::hour::{SIZE, hour_table};
 use crate::job::{Job, Looks};
 use crate::shows::look;
 use due_set::JobTable;
@@ -50,7 +50,7 @@ fn write_on<R: Wait>(
 
 // Looks again and again.
 fn look_on<R: Wait>(rt: &R, reader: BoardReader) -> (Looks, BoardReader)
-    requires { 0 < reader.jobs }
+    requires { 0 < reader.total }
 {
     let (seen, mut reader) = look(rt, reader);
     let first = seen.prefix;
@@ -107,7 +107,7 @@ fn end_all<R: Wait>(rt: &R, jobs: [Job; 3]) -> [Looks; 2] {
 }
 
 fn reading(reader: BoardReader) -> Job
-    requires { 0 < reader.jobs }
+    requires { 0 < reader.total }
     ensures { (table : Table) → IsFor table result }
 {
     Job {
@@ -176,7 +176,7 @@ fn start<R: Wait>(rt: &R, alloc: Global, table: &JobTable, rows: &RowList) -> Re
 fn prefixes_never_fall_beside_a_writer(rt: HostRuntime) -> Result<(), Fail> {
     let table = hour_table(rt.alloc())?;
     assert_eq!(rt; table.jobs(), 1);
-    let rows = RowList::fresh(rt.alloc(), 1)?;
+    let rows = RowList::fresh(rt.alloc(), SIZE)?;
     let mut jobs = start(&rt, rt.alloc(), &table, &rows)?;
     run_all(&rt, &table, &rows, &mut jobs);
     for looks in end_all(&rt, jobs) {

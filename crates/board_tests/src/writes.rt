@@ -4,7 +4,7 @@ ghost use Rattle.launch_machine.specs.Machine.{CountsBelow, StandsFor};
 
 use due_set::JobTable;
 use learner_core::Learnt;
-use paxos_base::Entry;
+use paxos_base::{Entry, JobRow};
 use status_board::BoardWriter;
 
 /// An entry of a slot, and what comes of it.
@@ -12,6 +12,13 @@ pub struct Told {
     pub slot: u64,
     pub entry: Entry,
     pub learnt: Learnt,
+}
+
+// Whether the row can count one more end.
+fn is_small(row: JobRow) -> bool
+    ensures { IsTrue result → (row.launched < 2 ^ 31) × (row.voided < 2 ^ 31) }
+{
+    row.launched < 1 << 31 && row.voided < 1 << 31
 }
 
 // Whether the writer can learn one more entry.
@@ -25,12 +32,12 @@ fn has_room(writer: &BoardWriter, table: &JobTable) -> bool
         return false;
     }
     'jobs: for job in 0..table.jobs() {
-        let row = writer.row(job);
-        if row.launched >= 1 << 31 || row.voided >= 1 << 31 {
+        if !is_small(writer.row(job)) {
             return false;
         }
     }
-    true
+    // The table's own row stands behind those of the jobs.
+    is_small(writer.row(table.jobs()))
 }
 
 /// Tells the writer these entries, and says whether it answered as it should.

@@ -10,7 +10,7 @@ use Rattle.paxos_base.specs.declared.durable.Durable.{Durable}
 use Rattle.paxos_base.specs.declared.entry.Entry.{Entry}
 use Rattle.paxos_base.specs.declared.rows.JobRow.{JobRow}
 use Rattle.due_set.specs.Table.{Table}
-use Rattle.launch_machine.specs.Clerk.{IsClerkOf, first_rows}
+use Rattle.launch_machine.specs.Clerk.{IsClerkOf, first_rows, table_size}
 use Rattle.step_spec.specs.State.{State, prefix_of}
 use Rattle.step_spec.specs.Step.{IsLaunchTable}
 use Rattle.agreement.specs.Log.{FollowsLog}
@@ -32,13 +32,13 @@ module _ (bytes : List ℕ) (table : Table) (book : BookState) (nodes : List (No
   is_of_number who node found = (run.kept.each who node found).identity ∙ ap (λ members. identity_of members who) run.members
 
   pub files_stand : (who : ℕ) (node : Node MemDisk) → slice_get nodes who ≡ Some node
-      → FilesStand (length table.jobs) (replica_of node).state.kept (seen_of (disk_of node))
+      → FilesStand (table_size table) (replica_of node).state.kept (seen_of (disk_of node))
   files_stand who node found =
       let is = run.kept.each who node found in
-      subst (λ (kept : Durable). FilesStand (length table.jobs) kept (seen_of (disk_of node))) (sym is.kept) is.stand
+      subst (λ (kept : Durable). FilesStand (table_size table) kept (seen_of (disk_of node))) (sym is.kept) is.stand
 
   pub stops_stand : (who : ℕ) (node : Node MemDisk) (image : Image) → slice_get nodes who ≡ Some node → left_by (disk_of node) image
-      → FilesStand (length table.jobs) (replica_of node).state.kept image
+      → FilesStand (table_size table) (replica_of node).state.kept image
   stops_stand who node image found left =
       stands_at_rest view_of table node (run.kept.each who node found).at_rest tt image left
 

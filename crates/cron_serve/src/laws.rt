@@ -21,7 +21,7 @@ ghost use Rattle.cluster_sched.specs.declared.row.SchedRow.{SchedRow};
 ghost use Rattle.agreement.specs.Transition.{identity_of};
 ghost use Rattle.launch_safety.specs.Fits.{HasStart, HasEnd, IsBacked, IsEffective, IsHeld};
 ghost use Rattle.launch_safety.specs.Launched.{IsCalledAt, IsWanted, LaunchesEachDue, OpensBy};
-ghost use Rattle.launch_machine.specs.Clerk.{IsClerkOf};
+ghost use Rattle.launch_machine.specs.Clerk.{IsClerkOf, table_size};
 ghost use Rattle.launch_machine.specs.Starts.{StartsOf};
 ghost use Rattle.step_spec.specs.Step.{IsLaunchTable};
 ghost use Rattle.replica_node.specs.Node.{disk_of, replica_of};
@@ -211,10 +211,10 @@ pub fn a_run_leaves_its_nodes()
         → (replica_of node).state.kept ≡ ((standing_behind table run.rows book).replicas who).kept }
     ensures files { (bytes : List ℕ) (table : Table) (book : BookState) (nodes : List (Node MemDisk)) (run : IsRunOf bytes table book nodes) (who : ℕ)
         (node : Node MemDisk) → slice_get nodes who ≡ Some node
-        → FilesStand (length table.jobs) (replica_of node).state.kept (seen_of (disk_of node)) }
+        → FilesStand (table_size table) (replica_of node).state.kept (seen_of (disk_of node)) }
     ensures stops { (bytes : List ℕ) (table : Table) (book : BookState) (nodes : List (Node MemDisk)) (run : IsRunOf bytes table book nodes) (who : ℕ)
         (node : Node MemDisk) (image : Image) → slice_get nodes who ≡ Some node → left_by (disk_of node) image
-        → FilesStand (length table.jobs) (replica_of node).state.kept image }
+        → FilesStand (table_size table) (replica_of node).state.kept image }
     ensures follows { (bytes : List ℕ) (table : Table) (book : BookState) (nodes : List (Node MemDisk)) (run : IsRunOf bytes table book nodes) (who : ℕ)
         (node : Node MemDisk) → slice_get nodes who ≡ Some node → (standing_behind table run.rows book).runs who ≡ true
         → (launch : List JobRow) × IsLaunchTable table (replica_of node).state launch × IsClerkOf table run.whole.log launch }

@@ -1,5 +1,6 @@
 //! Laws of what a replica keeps. Each is the contract of a function that does nothing.
 ghost use Rattle.std.specs.Prelude.{◌≡◌, ◌≢◌, ◌<◌, ◌≤◌, ℕ, List, [], ◌∷◌, length};
+ghost use Rattle.launch_machine.specs.Clerk.{table_size};
 ghost use Rattle.paxos_base.specs.Durable.{after_delta};
 ghost use Rattle.paxos_base.specs.declared.durable.Delta.{Delta};
 ghost use Rattle.paxos_base.specs.declared.durable.Delta.TheVariants.{Voted};
@@ -27,7 +28,7 @@ pub fn a_replica_stays_coherent_whatever_it_hears()
 pub fn a_change_may_follow_what_is_kept()
     ensures { (self : Identity) (table : Table) (event : Event) (state : State) (delta : Delta) → self.me < 8 → IsCoherent self state
         → IsPlanned table state event → deltas_of (step self event state) ≡ delta ∷ []
-        → BaseMayFollow (length table.jobs) state.kept delta → ChangeMayFollow (length table.jobs) state.kept delta }
+        → BaseMayFollow (table_size table) state.kept delta → ChangeMayFollow (table_size table) state.kept delta }
 {}
 
 /// The change of a step alters what is kept, whatever the replica hears, where a replica that may propose has not voted at its

@@ -1,5 +1,5 @@
 -- A table that asks for a start and then for its call, launch after launch: one job that is due at each minute, over a window of 33.
-use Rattle.std.proofs.Common.{◌≡◌, ℕ, zero, suc, ◌+◌, ◌-◌, ◌<◌, ◌^◌, ℤ, pos, negsuc, true, false, Option, Some, None, [], ◌∷◌, refl, ap, ◌∙◌, arith, subst, lit<, ◌↔◌, inl, unsigned_abs, FitsSigned}
+use Rattle.std.proofs.Common.{◌≡◌, ℕ, zero, suc, ◌+◌, ◌-◌, ◌<◌, ◌^◌, ℤ, pos, negsuc, true, false, Option, Some, None, List, [], ◌∷◌, refl, ap, ◌∙◌, arith, subst, lit<, ◌↔◌, inl, unsigned_abs, FitsSigned}
 use Rattle.std.specs.Int.{int_rem_euclid, w64}
 use Rattle.std.proofs.lemmas.Bool.Decides.{Decides-int_eq}
 use Rattle.std.proofs.lemmas.Int.{ints}
@@ -22,6 +22,7 @@ use Rattle.launch_machine.specs.Answers.{IsCallKind, IsIntent}
 use Rattle.launch_machine.specs.Clerk.{Applies, TakesStart}
 use Rattle.launch_machine.specs.Intent.{NoCall}
 use Rattle.launch_machine.specs.declared.machine.Intent.TheVariants as intent
+use Rattle.paxos_base.specs.Rows.{fresh_row}
 use Rattle.paxos_base.specs.declared.entry.Entry.{Entry}
 use Rattle.paxos_base.specs.declared.entry.Entry.TheVariants as entry
 use Rattle.paxos_base.specs.declared.entry.Kind.TheVariants.{Launch}
@@ -125,6 +126,10 @@ idle k = record { job = 0; cursor = minute_before k; open_now = None; last = min
 abbrev pub opened : ℕ → JobRow
 opened k = record (idle k) { cursor = Some (minute k); open_now = Some (minute k) }
 
+-- the launch table with this row of the job, and behind it the table's own
+abbrev pub with_table : JobRow → List JobRow
+with_table row = row ∷ fresh_row 1 ∷ []
+
 -- the entries of a launch
 abbrev pub start_entry : ℕ → Entry
 start_entry k = entry.Start 0 (minute k) (minute k)
@@ -132,13 +137,13 @@ start_entry k = entry.Start 0 (minute k) (minute k)
 abbrev pub end_entry : ℕ → Entry
 end_entry k = entry.End 0 (minute k) Launch
 
-takes_start : (k : ℕ) → k < 33 → TakesStart busy (idle k ∷ []) 0 (minute k) (minute k)
+takes_start : (k : ℕ) → k < 33 → TakesStart busy (with_table (idle k)) 0 (minute k) (minute k)
 takes_start k within = record { row = idle k; is_row = refl; idle = refl; may = inl (next k within, omega (arith, ints)) }
 
-pub start_applies : (k : ℕ) → k < 33 → Applies busy (idle k ∷ []) (start_entry k) (opened k ∷ [])
+pub start_applies : (k : ℕ) → k < 33 → Applies busy (with_table (idle k)) (start_entry k) (with_table (opened k))
 start_applies k within = inl (takes_start k within, refl)
 
-pub end_applies : (k : ℕ) → Applies busy (opened k ∷ []) (end_entry k) (idle (suc k) ∷ [])
+pub end_applies : (k : ℕ) → Applies busy (with_table (opened k)) (end_entry k) (with_table (idle (suc k)))
 end_applies k = inl (
   record { row = opened k; is_row = refl; since = minute k; is_open = refl; cursor = refl },
   let more : k + 1 ≡ suc k = omega arith in rw more refl,
@@ -147,11 +152,12 @@ end_applies k = inl (
 pub nothing_below : (before : ℕ) → before < 0 → ⊥
 nothing_below before less = omega (arith, less)
 
-no_call : (k : ℕ) (now : ℤ) → NoCall busy (idle k ∷ []) now
+no_call : (k : ℕ) (now : ℤ) → NoCall busy (with_table (idle k)) now
 no_call k now zero at may = let row : idle k ≡ may.row = cc in let shut : None ≡ Some may.since = ap (λ r. r.open_now) row ∙ may.is_open in cc
-no_call k now (suc job) at may = let none : None ≡ Some may.row = may.is_row in cc
+no_call k now (suc zero) at may = let row : fresh_row 1 ≡ may.row = cc in let shut : None ≡ Some may.since = ap (λ r. r.open_now) row ∙ may.is_open in cc
+no_call k now (suc (suc job)) at may = let none : None ≡ Some may.row = may.is_row in cc
 
-pub start_asked : (k : ℕ) → k < 33 → IsIntent busy (idle k ∷ []) (minute k) (intent.Start 0 (minute k))
+pub start_asked : (k : ℕ) → k < 33 → IsIntent busy (with_table (idle k)) (minute k) (intent.Start 0 (minute k))
 start_asked k within = (no_call k (minute k), record { takes = takes_start k within; first = λ before other less it. nothing_below before less })
 
 on_time : (k : ℕ) → IsCallKind busy 0 (minute k) (minute k) Launch
@@ -162,7 +168,7 @@ on_time k spec zone is_in =
     cc_some : (a b : Job) → Some a ≡ Some b → a ≡ b
     cc_some a b is = cc
 
-pub call_asked : (k : ℕ) → IsIntent busy (opened k ∷ []) (minute k) (intent.Call 0 (minute k) Launch)
+pub call_asked : (k : ℕ) → IsIntent busy (with_table (opened k)) (minute k) (intent.Call 0 (minute k) Launch)
 call_asked k = (
   record {
     may = record { row = opened k; is_row = refl; since = minute k; is_open = refl; cursor = refl; spec = only_job; zone = utc.0; is_in = job_in; come = omega (arith, ints) };
@@ -172,7 +178,7 @@ call_asked k = (
 )
 
 -- the launch is open until it is ended
-pub is_open_then : (k : ℕ) → is_open 0 (minute k) (opened k ∷ []) ≡ true
+pub is_open_then : (k : ℕ) → is_open 0 (minute k) (with_table (opened k)) ≡ true
 is_open_then k = (Decides-int_eq (minute k) (minute k)).1 refl
 
 pub some_asks : (table : Table) × (job : ℕ) × (at : ℤ) × (now : ℤ) × AsksFor table job at now

@@ -3,7 +3,7 @@ use Rattle.std.proofs.Common.{ℕ, ◌+◌, ◌^◌, ◌<◌, ◌≤◌, List, l
 use Rattle.std.specs.List.{Contains}
 use Rattle.paxos_base.specs.declared.rows.JobRow.{JobRow}
 use Rattle.due_set.specs.Table.{IsSound, Table}
-use Rattle.launch_machine.specs.Clerk.{first_rows}
+use Rattle.launch_machine.specs.Clerk.{first_rows, table_size}
 use Rattle.step_spec.specs.Step.{IsLaunchTable}
 use Rattle.step_spec.proofs.Lists.{nothing_in}
 use Rattle.agreement.specs.Transition.{after_transitions}
@@ -25,7 +25,7 @@ pub record Stands (n : ℕ) (table : Table) (book : List Row) : Type 0 where
   pub w : World
   pub followed : IsFollowed n table (first_rows table) w
   pub bounded : Bounded (length book) n w
-  pub matches : Matches n (length table.jobs) (standing_after n (first_rows table) book) (votes_in book) (learned_in book) w
+  pub matches : Matches n (table_size table) (standing_after n (first_rows table) book) (votes_in book) (learned_in book) w
 
 first_bounded : (n : ℕ) (rows : List JobRow) → n ≤ 7 → Bounded 0 n (first_world rows)
 first_bounded n rows few = record {

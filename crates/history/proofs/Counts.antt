@@ -2,14 +2,14 @@
 use Rattle.std.proofs.Common.{◌≡◌, ℕ, zero, suc, ◌+◌, ◌<◌, ◌≤◌, inl, inr, List, [], ◌∷◌, length, map, get_or, arith, ℤ}
 use Rattle.std.specs.List.{All, Contains, range_with_len}
 use Rattle.std.proofs.lemmas.List.Elements.{All-set, All-contains, All-cons}
-use Rattle.paxos_base.specs.Rows.{fresh_row}
+use Rattle.paxos_base.specs.Rows.{fresh_row, row_count}
 use Rattle.paxos_base.specs.declared.entry.Entry.{Entry}
 use Rattle.paxos_base.specs.declared.entry.Entry.TheVariants.{Noop, Start, End}
 use Rattle.paxos_base.specs.declared.entry.Kind.{Kind}
 use Rattle.paxos_base.specs.declared.entry.Kind.TheVariants.{Launch, Void}
 use Rattle.paxos_base.specs.declared.rows.JobRow.{JobRow}
 use Rattle.due_set.specs.Table.{Table}
-use Rattle.launch_machine.specs.Clerk.{Applies, AppliesAll, closed_row, first_rows, opened_row}
+use Rattle.launch_machine.specs.Clerk.{Applies, AppliesAll, closed_row, first_rows, opened_row, table_size}
 use Rattle.history.specs.Numbers.{AreRowsBelow, AreRowsWithin}
 use Rattle.due_set.proofs.Rising.{Contains-head as in_first, Contains-tail as in_rest}
 
@@ -65,4 +65,4 @@ none_within from zero = λ k d within. absurd (omega (arith, within))
 none_within from (suc count) = All-cons (CountsWithin 0) (fresh_row from) (map fresh_row (range_with_len (from + 1) count)) (omega arith, omega arith) (none_within (from + 1) count)
 
 pub first_within : (table : Table) → AreRowsWithin 0 (first_rows table)
-first_within table = none_within 0 (length table.jobs)
+first_within table = none_within 0 (row_count (table_size table))

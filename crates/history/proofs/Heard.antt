@@ -1,11 +1,12 @@
 -- The letters of a legal book are within the bounds that a replica counts with, so that they are heard whole.
-use Rattle.std.proofs.Common.{◌≡◌, ℕ, ◌+◌, ◌*◌, ◌<◌, ◌≤◌, ◌^◌, true, ltb, List, [], ◌∷◌, ◌++◌, length, map, get_or, inl, inr, refl, sym, ap, ◌∙◌, arith}
+use Rattle.std.proofs.Common.{◌≡◌, ℕ, ◌*◌, ◌<◌, ◌≤◌, ◌^◌, true, ltb, List, [], ◌∷◌, ◌++◌, length, map, get_or, inl, inr, refl, sym, ap, ◌∙◌, arith}
 use Rattle.std.specs.List.{Contains, flat_map}
 use Rattle.std.proofs.lemmas.Bool.{and_from, and_parts, eq-eqb, lt-ltb}
 use Rattle.std.proofs.lemmas.List.{length-set}
 use Rattle.std.proofs.lemmas.List.Elements.{All-contains}
+use Rattle.paxos_base.specs.declared.rows.TableSize.{TableSize}
 use Rattle.paxos_base.specs.Ballot.{round_of}
-use Rattle.paxos_base.specs.Rows.{fresh_row}
+use Rattle.paxos_base.specs.Rows.{fits_table, fresh_row, row_count}
 use Rattle.paxos_base.specs.declared.entry.Entry.{Entry}
 use Rattle.paxos_base.specs.declared.entry.Entry.TheVariants.{Noop, Start, End}
 use Rattle.paxos_base.specs.declared.entry.Vote.{Vote}
@@ -16,7 +17,7 @@ use Rattle.paxos_letter.specs.declared.packet.Packet.TheVariants as packet
 use Rattle.paxos_letter.proofs.LetterLemmas.{letter_again, letters_have_packets}
 use Rattle.paxos_letter.proofs.PacketBack.{same_packets}
 use Rattle.due_set.specs.Table.{IsSound, Table}
-use Rattle.launch_machine.specs.Clerk.{Applies, AppliesAll, closed_row, first_rows, opened_row}
+use Rattle.launch_machine.specs.Clerk.{Applies, AppliesAll, closed_row, first_rows, opened_row, table_size}
 use Rattle.step_spec.specs.Heard.{heard_as, old_vote, packets_of}
 use Rattle.step_spec.specs.Letters.{IsHeardAs, are_small, is_small, is_small_ballot, is_small_letter, is_small_slot}
 use Rattle.step_spec.specs.May.{HasSaid}
@@ -29,9 +30,9 @@ use Rattle.history.specs.Legal.{IsLegal}
 use Rattle.history.specs.Numbers.{AreRowsBelow, IsMessageWithin, IsVoteWithin}
 use Rattle.history.proofs.BookLemmas.{stands}
 use Rattle.history.proofs.Launched.{few_launched}
+use Rattle.history.proofs.TableRows.{HasFirstVersion, clerk_first_version, first_version_fits}
 use Rattle.history.proofs.Within.{message_within}
 use Rattle.due_set.proofs.Rising.{Contains-head as in_first, Contains-tail as in_rest}
-use Rattle.std.proofs.lemmas.List.FromFn.{length-map-range_with_len}
 
 -- ---- rows
 
@@ -45,15 +46,15 @@ pub AppliesAll-length : (table : Table) (rows : List JobRow) (entries : List Ent
 AppliesAll-length table rows [] last is = ap length is
 AppliesAll-length table rows (entry ∷ entries) last (middle, applies, rest) = AppliesAll-length table middle entries last rest ∙ Applies-length table rows entry middle applies
 
--- the rows that a message has are one for each job, and their counts are within the bounds
+-- the rows that a message has are those of the table, and their counts are within the bounds
 abbrev HasRows : Table → Message → Type 0
-HasRows table (Snap slot rows) = (length rows ≡ length table.jobs) × AreRowsBelow (2 ^ 20) rows
+HasRows table (Snap slot rows) = HasFirstVersion table rows × AreRowsBelow (2 ^ 20) rows
 HasRows table message = Unit {0}
 
 has_rows : (n : ℕ) (table : Table) (w : World) (q : ℕ) (message : Message) → IsSound table → IsFollowed n table (first_rows table) w → HasSaid w.said q message → HasRows table message
 has_rows n table w q (Snap slot rows) sound followed has =
     let at = followed.tables.snaps q slot rows has in
-    (AppliesAll-length table (first_rows table) at.entries rows at.applied ∙ length-map-range_with_len fresh_row 0 (length table.jobs), few_launched table at.entries rows sound at.applied)
+    (clerk_first_version table at.entries rows at.applied, few_launched table at.entries rows sound at.applied)
 has_rows n table w q message sound followed has = tt
 
 -- ---- packets
@@ -64,59 +65,61 @@ small_ballot most ballot short low = lt-ltb (round_of ballot) (2 ^ 59) (omega (a
 small_slot : (most slot : ℕ) → most < 2 ^ 59 → slot ≤ most → is_small_slot slot ≡ true
 small_slot most slot short low = lt-ltb slot (2 ^ 62) (omega (arith, short, low))
 
-small_append : (jobs : ℕ) (xs ys : List Packet) → are_small jobs xs ≡ true → are_small jobs ys ≡ true → are_small jobs (xs ++ ys) ≡ true
-small_append jobs [] ys front back = back
-small_append jobs (x ∷ xs) ys front back =
-    let parts = and_parts (is_small jobs x) (are_small jobs xs) front in
-    and_from (is_small jobs x) (are_small jobs (xs ++ ys)) parts.0 (small_append jobs xs ys parts.1 back)
+small_append : (size : TableSize) (xs ys : List Packet) → are_small size xs ≡ true → are_small size ys ≡ true → are_small size (xs ++ ys) ≡ true
+small_append size [] ys front back = back
+small_append size (x ∷ xs) ys front back =
+    let parts = and_parts (is_small size x) (are_small size xs) front in
+    and_from (is_small size x) (are_small size (xs ++ ys)) parts.0 (small_append size xs ys parts.1 back)
 
-small_votes : (jobs most ballot : ℕ) (votes : List Vote) → most < 2 ^ 59 → round_of ballot ≤ most → ((vote : Vote) → Contains votes vote → IsVoteWithin most vote) → are_small jobs (map (old_vote ballot) votes) ≡ true
-small_votes jobs most ballot [] short low each = refl
-small_votes jobs most ballot (vote ∷ votes) short low each =
+small_votes : (size : TableSize) (most ballot : ℕ) (votes : List Vote) → most < 2 ^ 59 → round_of ballot ≤ most → ((vote : Vote) → Contains votes vote → IsVoteWithin most vote) → are_small size (map (old_vote ballot) votes) ≡ true
+small_votes size most ballot [] short low each = refl
+small_votes size most ballot (vote ∷ votes) short low each =
     let here = each vote (in_first vote votes) in
     let slot : vote.slot ≤ most = omega (arith, here.slot) in
     and_from _ _ (and_from _ _ (small_ballot most ballot short low) (and_from _ _ (small_slot most vote.slot short slot) (small_ballot most vote.ballot short here.round)))
-    (small_votes jobs most ballot votes short low (λ other has. each other (in_rest vote votes other has)))
+    (small_votes size most ballot votes short low (λ other has. each other (in_rest vote votes other has)))
 
-small_rows : (jobs most slot : ℕ) (rows : List JobRow) → most < 2 ^ 59 → slot ≤ most → ((row : JobRow) → Contains rows row → (row.launched < 2 ^ 20) × (row.voided < 2 ^ 20)) → are_small jobs (map (packet.SnapRow slot) rows) ≡ true
-small_rows jobs most slot [] short low each = refl
-small_rows jobs most slot (row ∷ rows) short low each =
+small_rows : (size : TableSize) (most slot : ℕ) (rows : List JobRow) → most < 2 ^ 59 → slot ≤ most → ((row : JobRow) → Contains rows row → (row.launched < 2 ^ 20) × (row.voided < 2 ^ 20))
+    → ((row : JobRow) → Contains rows row → fits_table size row ≡ true) → are_small size (map (packet.SnapRow slot) rows) ≡ true
+small_rows size most slot [] short low each fit = refl
+small_rows size most slot (row ∷ rows) short low each fit =
     let here = each row (in_first row rows) in
-    and_from _ _ (and_from _ _ (small_slot most slot short low) (and_from _ _ (lt-ltb row.launched (2 ^ 31) (omega (arith, here.0))) (lt-ltb row.voided (2 ^ 31) (omega (arith, here.1)))))
-    (small_rows jobs most slot rows short low (λ other has. each other (in_rest row rows other has)))
+    let counts = and_from _ _ (lt-ltb row.launched (2 ^ 31) (omega (arith, here.0))) (lt-ltb row.voided (2 ^ 31) (omega (arith, here.1))) in
+    and_from _ _ (and_from _ _ (small_slot most slot short low) (and_from _ _ counts (fit row (in_first row rows))))
+    (small_rows size most slot rows short low (λ other has. each other (in_rest row rows other has)) (λ other has. fit other (in_rest row rows other has)))
 
-one_small : (jobs : ℕ) (one : Packet) → is_small jobs one ≡ true → are_small jobs (one ∷ []) ≡ true
-one_small jobs one is = and_from (is_small jobs one) true is refl
+one_small : (size : TableSize) (one : Packet) → is_small size one ≡ true → are_small size (one ∷ []) ≡ true
+one_small size one is = and_from (is_small size one) true is refl
 
-message_small : (table : Table) (most : ℕ) (message : Message) → most < 2 ^ 59 → IsMessageWithin most message → HasRows table message → are_small (length table.jobs) (packets_of message) ≡ true
+message_small : (table : Table) (most : ℕ) (message : Message) → most < 2 ^ 59 → IsMessageWithin most message → HasRows table message → are_small (table_size table) (packets_of message) ≡ true
 unfolding packets_of
-message_small table most (Prepare ballot slot) short (round, low) has = one_small (length table.jobs) (packet.Prepare ballot slot) (and_from _ _ (small_ballot most ballot short round) (small_slot most slot short low))
+message_small table most (Prepare ballot slot) short (round, low) has = one_small (table_size table) (packet.Prepare ballot slot) (and_from _ _ (small_ballot most ballot short round) (small_slot most slot short low))
 message_small table most (Promise ballot slot votes) short (round, low, within) has =
     and_from _ _ (and_from _ _ (small_ballot most ballot short round) (small_slot most slot short low))
-    (small_votes (length table.jobs) most ballot votes short round (λ vote inside. All-contains (IsVoteWithin most) votes vote within inside))
+    (small_votes (table_size table) most ballot votes short round (λ vote inside. All-contains (IsVoteWithin most) votes vote within inside))
 message_small table most (Accept vote) short within has =
     let slot : vote.slot ≤ most = omega (arith, within.slot) in
-    one_small (length table.jobs) (packet.Accept vote.ballot vote.slot vote.entry) (and_from _ _ (small_ballot most vote.ballot short within.round) (small_slot most vote.slot short slot))
-message_small table most (Accepted ballot slot) short (round, low) has = one_small (length table.jobs) (packet.Accepted ballot slot) (and_from _ _ (small_ballot most ballot short round) (small_slot most slot short low))
-message_small table most (Nack ballot promised) short (round, low) has = one_small (length table.jobs) (packet.Nack ballot promised) (and_from _ _ (small_ballot most ballot short round) (small_ballot most promised short low))
-message_small table most (Known slot entry) short low has = one_small (length table.jobs) (packet.Known slot entry) (small_slot most slot short low)
-message_small table most (AskFrom slot) short low has = one_small (length table.jobs) (packet.AskFrom slot) (small_slot most slot short low)
-message_small table most (Snap slot rows) short (low, within) (count, below) =
-    and_from _ _ (and_from _ _ (small_slot most slot short low) (eq-eqb (length rows) (length table.jobs) count))
-    (small_rows (length table.jobs) most slot rows short low (λ row inside. All-contains (λ row. (row.launched < 2 ^ 20) × (row.voided < 2 ^ 20)) rows row below inside))
-message_small table most (Lead ballot slot) short (round, low) has = one_small (length table.jobs) (packet.Lead ballot slot) (and_from _ _ (small_ballot most ballot short round) (small_slot most slot short low))
+    one_small (table_size table) (packet.Accept vote.ballot vote.slot vote.entry) (and_from _ _ (small_ballot most vote.ballot short within.round) (small_slot most vote.slot short slot))
+message_small table most (Accepted ballot slot) short (round, low) has = one_small (table_size table) (packet.Accepted ballot slot) (and_from _ _ (small_ballot most ballot short round) (small_slot most slot short low))
+message_small table most (Nack ballot promised) short (round, low) has = one_small (table_size table) (packet.Nack ballot promised) (and_from _ _ (small_ballot most ballot short round) (small_ballot most promised short low))
+message_small table most (Known slot entry) short low has = one_small (table_size table) (packet.Known slot entry) (small_slot most slot short low)
+message_small table most (AskFrom slot) short low has = one_small (table_size table) (packet.AskFrom slot) (small_slot most slot short low)
+message_small table most (Snap slot rows) short (low, within) (version, below) =
+    and_from _ _ (and_from _ _ (small_slot most slot short low) (eq-eqb (length rows) (row_count (table_size table)) version.numbered.count))
+    (small_rows (table_size table) most slot rows short low (λ row inside. All-contains (λ row. (row.launched < 2 ^ 20) × (row.voided < 2 ^ 20)) rows row below inside) (first_version_fits table rows version))
+message_small table most (Lead ballot slot) short (round, low) has = one_small (table_size table) (packet.Lead ballot slot) (and_from _ _ (small_ballot most ballot short round) (small_slot most slot short low))
 message_small table most (Mention ballot) short low has = refl
 
-messages_small : (table : Table) (messages : List Message) → ((message : Message) → Contains messages message → are_small (length table.jobs) (packets_of message) ≡ true) → are_small (length table.jobs) (flat_map packets_of messages) ≡ true
+messages_small : (table : Table) (messages : List Message) → ((message : Message) → Contains messages message → are_small (table_size table) (packets_of message) ≡ true) → are_small (table_size table) (flat_map packets_of messages) ≡ true
 messages_small table [] each = refl
 messages_small table (message ∷ messages) each =
-    small_append (length table.jobs) (packets_of message) (flat_map packets_of messages) (each message (in_first message messages))
+    small_append (table_size table) (packets_of message) (flat_map packets_of messages) (each message (in_first message messages))
     (messages_small table messages (λ other has. each other (in_rest message messages other has)))
 
 -- ---- letters
 
 pub letters_small : (n : ℕ) (table : Table) (book : List Row) (letter : PostedLetter) (packets : List Packet) → n ≤ 7 → IsSound table → IsLegal n table book → length book < 2 ^ 59 → Contains (standing_after n (first_rows table) book).posted letter
-    → Spells n letter.from packets letter.bytes → are_small (length table.jobs) packets ≡ true
+    → Spells n letter.from packets letter.bytes → are_small (table_size table) packets ≡ true
 letters_small n table book letter packets few sound legal short posted spells =
     let there = stands n table book few legal in
     let spelled = there.matches.spelled letter posted in
@@ -129,12 +132,12 @@ letters_small n table book letter packets few sound legal short posted spells =
 
 pub letters_whole : (n : ℕ) (table : Table) (book : List Row) (letter : PostedLetter) → n ≤ 7 → IsSound table → IsLegal n table book → length book < 2 ^ 59 → Contains (standing_after n (first_rows table) book).posted letter
     → length letter.bytes < 56 * 2 ^ 31
-    → (sent : List Message) × Spells n letter.from (flat_map packets_of sent) letter.bytes × IsHeardAs n (length table.jobs) letter.bytes letter.from (flat_map heard_as sent)
+    → (sent : List Message) × Spells n letter.from (flat_map packets_of sent) letter.bytes × IsHeardAs n (table_size table) letter.bytes letter.from (flat_map heard_as sent)
 letters_whole n table book letter few sound legal short posted small_bytes =
     let spelled = (stands n table book few legal).matches.spelled letter posted in
     let packets : List Packet = flat_map packets_of spelled.messages in
     let long = (letters_have_packets n letter.from packets letter.bytes spelled.spells).1 in
     let fewer : length packets < 2 ^ 31 = omega (arith, long, small_bytes) in
-    let small : is_small_letter (length table.jobs) packets ≡ true =
-    and_from (ltb (length packets) (2 ^ 31)) (are_small (length table.jobs) packets) (lt-ltb (length packets) (2 ^ 31) fewer) (letters_small n table book letter packets few sound legal short posted spelled.spells) in
+    let small : is_small_letter (table_size table) packets ≡ true =
+    and_from (ltb (length packets) (2 ^ 31)) (are_small (table_size table) packets) (lt-ltb (length packets) (2 ^ 31) fewer) (letters_small n table book letter packets few sound legal short posted spelled.spells) in
     (spelled.messages, spelled.spells, record { packets = packets; spells = spelled.spells; heard = rw small (sym (messages_heard spelled.messages)) })

@@ -1,11 +1,13 @@
 -- What a program that keeps a book looks up, and by what a book goes on.
-use Rattle.std.proofs.Common.{◌≡◌, ◌≢◌, ℕ, Bool, true, false, eqb, Option, Some, List, [], ◌∷◌, ◌++◌, length, Result, refl, sym, ap, ◌∙◌, inl, inr, arith, subst, ℤ}
+use Rattle.std.proofs.Common.{◌≡◌, ◌≢◌, ℕ, Bool, true, false, eqb, Option, Some, List, [], ◌∷◌, ◌++◌, Result, refl, sym, ap, ◌∙◌, inl, inr, arith, subst, ℤ}
 use Rattle.std.specs.List.{flat_map}
 use Rattle.std.specs.Ordering.{int_eq}
 use Rattle.std.proofs.lemmas.Bool.Decides.{Decides-int_eq}
 use Rattle.std.proofs.lemmas.Bool.{and_parts, cases_Bool, eq-eqb, eqb-true}
 use Rattle.std.proofs.lemmas.List.Concat.{flat_map-append}
 use Rattle.std.proofs.lemmas.List.Sums.{fold_push}
+use Rattle.launch_machine.specs.Clerk.{table_size}
+use Rattle.paxos_base.specs.declared.rows.TableSize.{TableSize}
 use Rattle.paxos_base.specs.declared.rows.JobRow.{JobRow}
 use Rattle.paxos_letter.proofs.LetterLemmas.{letter_again}
 use Rattle.paxos_letter.proofs.PacketBack.{same_packets}
@@ -94,12 +96,12 @@ arrival_holds old new row stands arrives = rw (looked_up_under row.name old.held
 
 -- ---- the event of a cause
 
-heard_same : (n jobs : ℕ) (bytes : List ℕ) (from : ℕ) (one other : List Message) → IsHeardAs n jobs bytes from one → IsHeardAs n jobs bytes from other → one ≡ other
-heard_same n jobs bytes from one other a b =
+heard_same : (n : ℕ) (size : TableSize) (bytes : List ℕ) (from : ℕ) (one other : List Message) → IsHeardAs n size bytes from one → IsHeardAs n size bytes from other → one ≡ other
+heard_same n size bytes from one other a b =
     let first = letter_again n from a.packets bytes a.spells in
     let second = letter_again n from b.packets bytes b.spells in
     let same : a.packets ≡ b.packets = same_packets from from a.packets b.packets (sym first.fields ∙ second.fields) in
-    a.heard ∙ ap (heard_in jobs) same ∙ sym b.heard
+    a.heard ∙ ap (heard_in size) same ∙ sym b.heard
 
 plan_same : (table : Table) (state : State) (now : ℤ) (one other : Plan) → IsPlanned table state (told.Tick now one) → IsPlanned table state (told.Tick now other) → told.Tick now one ≡ told.Tick now other
 plan_same table state now one other a b =
@@ -123,11 +125,11 @@ one_event n table standing who (Tick now) one other a b =
     (subst (λ event. IsPlanned table (standing.replicas who) event) theirs.2 b.planned) ∙ sym theirs.2
 one_event n table standing who (Hear number) one other a b = go a.event_of b.event_of
   where
-    go : IsHeard n (length table.jobs) standing who number one → IsHeard n (length table.jobs) standing who number other → one ≡ other
+    go : IsHeard n (table_size table) standing who number one → IsHeard n (table_size table) standing who number other → one ≡ other
     go mine theirs =
         let letter = same_some mine.letter theirs.letter (sym mine.there ∙ theirs.there) in
-        let messages = heard_same n (length table.jobs) theirs.letter.bytes theirs.letter.from mine.messages theirs.messages
-        (subst (λ l. IsHeardAs n (length table.jobs) l.bytes l.from mine.messages) letter mine.heard) theirs.heard in
+        let messages = heard_same n (table_size table) theirs.letter.bytes theirs.letter.from mine.messages theirs.messages
+        (subst (λ l. IsHeardAs n (table_size table) l.bytes l.from mine.messages) letter mine.heard) theirs.heard in
         mine.is ∙ rw (letter, messages) refl ∙ sym theirs.is
 one_event n table standing who Answer one other a b = answer_same table standing who (standing.replicas who) one other a.event_of b.event_of a.planned b.planned
 

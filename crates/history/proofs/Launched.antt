@@ -1,5 +1,5 @@
 -- How often a job has been launched: at most once for each minute of the window, since its instants or dates rise.
-use Rattle.std.proofs.Common.{◌≡◌, ℕ, zero, suc, ◌+◌, ◌<◌, ◌^◌, inl, inr, Option, Some, None, List, [], ◌∷◌, length, map, get_or, slice_set, ℤ, pos, ◌+ℤ◌, ◌-ℤ◌, ◌<ℤ◌, ◌≤ℤ◌, refl, sym, ap, ◌∙◌, arith, subst}
+use Rattle.std.proofs.Common.{◌≡◌, ℕ, zero, suc, ◌+◌, ◌<◌, ◌^◌, inl, inr, Option, Some, None, List, [], ◌∷◌, map, get_or, slice_set, ℤ, pos, ◌+ℤ◌, ◌-ℤ◌, ◌<ℤ◌, ◌≤ℤ◌, refl, sym, ap, ◌∙◌, arith, subst}
 use Rattle.std.specs.List.{Contains, range_with_len, slice_get}
 use Rattle.std.specs.Int.{int_div_euclid}
 use Rattle.std.proofs.lemmas.Int.{ints}
@@ -14,7 +14,7 @@ use Rattle.zone_minutes.specs.Zone.{local_of, minute_nanos}
 use Rattle.zone_minutes.specs.declared.minute.Window.{Window}
 use Rattle.zone_minutes.proofs.RunLemmas.{local_of-ahead}
 use Rattle.zone_minutes.proofs.ZoneLemmas.{offset_small}
-use Rattle.paxos_base.specs.Rows.{fresh_row}
+use Rattle.paxos_base.specs.Rows.{fresh_row, row_count}
 use Rattle.paxos_base.specs.declared.entry.Entry.{Entry}
 use Rattle.paxos_base.specs.declared.entry.Entry.TheVariants.{Noop, Start, End}
 use Rattle.paxos_base.specs.declared.entry.Kind.{Kind}
@@ -24,7 +24,7 @@ use Rattle.cluster_sched.specs.Names.{IsDayNear, IsTimeNear, job_kind, kind_of}
 use Rattle.due_set.specs.Table.{IsAfter, IsSound, Table}
 use Rattle.due_set.specs.declared.job.JobKind.{JobKind}
 use Rattle.due_set.specs.declared.job.JobKind.TheVariants.{Anacron}
-use Rattle.launch_machine.specs.Clerk.{Applies, AppliesAll, MayStart, closed_row, first_rows, opened_row}
+use Rattle.launch_machine.specs.Clerk.{Applies, AppliesAll, MayStart, closed_row, first_rows, opened_row, table_size}
 use Rattle.launch_machine.proofs.MachineLemmas.{set_here, set_there}
 use Rattle.std.proofs.lemmas.Bool.{cases_eq}
 use Rattle.launch_machine.proofs.StartLemmas.{may_start_later}
@@ -162,7 +162,7 @@ few_begun table job row sound spread = go row.cursor spread
         omega (arith, ints, few, short)
 
 -- the place of what is in a list
-place_of : {X : Type 0} (xs : List X) (x : X) → Contains xs x → (k : ℕ) × (slice_get xs k ≡ Some x)
+pub place_of : {X : Type 0} (xs : List X) (x : X) → Contains xs x → (k : ℕ) × (slice_get xs k ≡ Some x)
 place_of [] x has = nothing_in has
 place_of (y ∷ xs) x has = elim (cons_cases y xs x has) [
   | inl same ↦ (0, ap Some same)
@@ -172,7 +172,7 @@ place_of (y ∷ xs) x has = elim (cons_cases y xs x has) [
 -- the counts of a launch table are below 2^20
 pub few_launched : (table : Table) (entries : List Entry) (last : List JobRow) → IsSound table → AppliesAll table (first_rows table) entries last → AreRowsBelow (2 ^ 20) last
 few_launched table entries last sound applied =
-    let spread = all_spread table (first_rows table) entries last (λ job row is. none_begun table 0 (length table.jobs) job row is job) applied in
+    let spread = all_spread table (first_rows table) entries last (λ job row is. none_begun table 0 (row_count (table_size table)) job row is job) applied in
     all_in (λ row. (row.launched < 2 ^ 20) × (row.voided < 2 ^ 20)) last (λ row has.
     let at = place_of last row has in
     let few = few_begun table at.0 row sound (spread at.0 row at.1) in

@@ -32,7 +32,7 @@ use Rattle.agreement.specs.World.{fresh}
 use Rattle.history.specs.Book.{PostedLetter, Standing, held_after, is_name, under}
 use Rattle.history.specs.declared.turn.CallRow.{CallRow}
 use Rattle.history.specs.declared.turn.Cause.TheVariants as cause
-use Rattle.history.proofs.Asks.{busy, call_asked, end_applies, end_entry, idle, in_window, is_open_then, minute, minute_fits, opened, start_applies, start_asked, start_entry}
+use Rattle.history.proofs.Asks.{busy, call_asked, end_applies, end_entry, idle, in_window, is_open_then, minute, minute_fits, opened, start_applies, start_asked, start_entry, with_table}
 use Rattle.history.proofs.Rounds.{AreBelow, IsKnown, IsProposed, call_acts, end_acts, following, is_heard, leading, mail, propose_turn, put_below, round, sent, start_acts, told, vote}
 use Rattle.history.proofs.SomeBook.{prepare_spells, promise_spells}
 use Rattle.history.proofs.Turns.{Book, Next, Stands, first_turn, go_on, second_turn}
@@ -144,7 +144,7 @@ pub record Settled (k : ℕ) : Type 0 where
   pub book : Book 2 busy (Stands (leading 0 (first_rows busy) votes entries None) (following votes entries) posted held None)
   pub long : 0 + length entries ≡ 2 * k
   pub below : AreBelow (2 * k) votes
-  pub table : AppliesAll busy (first_rows busy) entries (idle k ∷ [])
+  pub table : AppliesAll busy (first_rows busy) entries (with_table (idle k))
   pub before : AreBefore k held
 
 settled_first : Settled 0
@@ -167,18 +167,18 @@ end_fits : (k : ℕ) → k < 33 → FitEntryFields (numbers_of (end_entry k))
 end_fits k within = record { job = lit< tt; at = minute_fits k within; now = grind arith }
 
 call_turn : (k : ℕ) (votes : List Vote) (entries : List Entry) (other : State) (posted : List PostedLetter) (held : List SchedRow) (standing : Standing)
-    → k < 33 → 0 + length entries ≡ 2 * k + 1 → AppliesAll busy (first_rows busy) entries (opened k ∷ []) → under (name k) held ≡ None
+    → k < 33 → 0 + length entries ≡ 2 * k + 1 → AppliesAll busy (first_rows busy) entries (with_table (opened k)) → under (name k) held ≡ None
     → 2 * k + 1 < 0 + 64 → Stands (leading 0 (first_rows busy) votes entries None) other posted held None standing
     → Next 2 busy standing (Stands (leading 0 (first_rows busy) votes entries None) other (posted ++ []) (held_after (Some (answered_call k)) held) (Some (call_row k)))
 unfolding after_act sent_by calls_by
 call_turn k votes entries other posted held standing within long table none short there =
     first_turn busy (leading 0 (first_rows busy) votes entries None) other (leading 0 (first_rows busy) votes entries None) posted held None standing
     (cause.Tick (record { 0 = minute k })) (Some (answered_call k)) (Tick (minute k) plan) (Call (call_row k) ∷ []) []
-    (call_acts 0 (2 * k + 1) (first_rows busy) (opened k ∷ []) votes entries (minute k) (minute k) long short) refl (table, call_asked k) tt
+    (call_acts 0 (2 * k + 1) (first_rows busy) (with_table (opened k)) votes entries (minute k) (minute k) long short) refl (table, call_asked k) tt
     (refl, refl, rw none refl) (in_window k within, plan, refl) there
   where
     plan : Plan
-    plan = record { rows = opened k ∷ []; intent = intent.Call 0 (minute k) Launch }
+    plan = record { rows = with_table (opened k); intent = intent.Call 0 (minute k) Launch }
 
 module _ (k : ℕ) (within : k < 32) (there : Settled k) where
   inside : k < 33
@@ -206,8 +206,8 @@ module _ (k : ℕ) (within : k < 32) (there : Settled k) where
   below_then : AreBelow (2 * k + 1) votes_then
   below_then = put_below (2 * k) (start_entry k) there.votes there.below
 
-  table_then : AppliesAll busy (first_rows busy) entries_then (opened k ∷ [])
-  table_then = AppliesAll-push busy (first_rows busy) there.entries (start_entry k) (idle k ∷ []) (opened k ∷ []) there.table (start_applies k inside)
+  table_then : AppliesAll busy (first_rows busy) entries_then (with_table (opened k))
+  table_then = AppliesAll-push busy (first_rows busy) there.entries (start_entry k) (with_table (idle k)) (with_table (opened k)) there.table (start_applies k inside)
 
   abbrev held_then : List SchedRow
   held_then = held_after (Some (answered_call k)) there.held
@@ -217,11 +217,11 @@ module _ (k : ℕ) (within : k < 32) (there : Settled k) where
       → Next 2 busy standing (IsProposed (2 * k) (start_entry k) there.votes there.entries there.posted there.held)
   start_turn standing stands =
       propose_turn (cause.Tick (record { 0 = minute k })) (Tick (minute k) plan) 0 (2 * k) (start_entry k) (first_rows busy) there.votes there.entries _ there.posted there.held None standing
-      (start_acts 0 (2 * k) (first_rows busy) (idle k ∷ []) there.votes there.entries (minute k) (minute k) there.long (omega (arith, within)))
+      (start_acts 0 (2 * k) (first_rows busy) (with_table (idle k)) there.votes there.entries (minute k) (minute k) there.long (omega (arith, within)))
       (there.table, start_asked k inside) start_slot (start_fits k inside) (in_window k inside, plan, refl) stands
     where
       plan : Plan
-      plan = record { rows = idle k ∷ []; intent = intent.Start 0 (minute k) }
+      plan = record { rows = with_table (idle k); intent = intent.Start 0 (minute k) }
 
   started_book : Book 2 busy (IsKnown (2 * k) (start_entry k) there.votes there.entries there.posted there.held)
   started_book =
@@ -238,9 +238,9 @@ module _ (k : ℕ) (within : k < 32) (there : Settled k) where
   end_turn : (standing : Standing) → Stands (leading 0 (first_rows busy) votes_then entries_then None) (following votes_then entries_then) (posted_then ++ []) held_then (Some (call_row k)) standing
       → Next 2 busy standing (IsProposed (2 * k + 1) (end_entry k) votes_then entries_then (posted_then ++ []) held_then)
   end_turn standing stands =
-      propose_turn cause.Answer (Answer 0 (minute k) Launch (opened k ∷ [])) 0 (2 * k + 1) (end_entry k) (first_rows busy) votes_then entries_then _ (posted_then ++ []) held_then (Some (call_row k)) standing
-      (end_acts 0 (2 * k + 1) (first_rows busy) (opened k ∷ []) votes_then entries_then (minute k) long_then (is_open_then k))
-      table_then end_slot (end_fits k inside) (record { row = call_row k; waits = stands.waits_is; plan = record { rows = opened k ∷ []; intent = intent.Rest }; is = refl }) stands
+      propose_turn cause.Answer (Answer 0 (minute k) Launch (with_table (opened k))) 0 (2 * k + 1) (end_entry k) (first_rows busy) votes_then entries_then _ (posted_then ++ []) held_then (Some (call_row k)) standing
+      (end_acts 0 (2 * k + 1) (first_rows busy) (with_table (opened k)) votes_then entries_then (minute k) long_then (is_open_then k))
+      table_then end_slot (end_fits k inside) (record { row = call_row k; waits = stands.waits_is; plan = record { rows = with_table (opened k); intent = intent.Rest }; is = refl }) stands
 
   ended_book : Book 2 busy (IsKnown (2 * k + 1) (end_entry k) votes_then entries_then (posted_then ++ []) held_then)
   ended_book =
@@ -256,7 +256,7 @@ module _ (k : ℕ) (within : k < 32) (there : Settled k) where
     book = ended_book;
     long = omega (arith, length_push entries_then (end_entry k), long_then);
     below = let more : 2 * k + 1 + 1 ≡ 2 * suc k = omega arith in subst (λ slot. AreBelow slot (put_vote (vote (2 * k + 1) (end_entry k)) votes_then)) more (put_below (2 * k + 1) (end_entry k) votes_then below_then);
-    table = AppliesAll-push busy (first_rows busy) entries_then (end_entry k) (opened k ∷ []) (idle (suc k) ∷ []) table_then (end_applies k);
+    table = AppliesAll-push busy (first_rows busy) entries_then (end_entry k) (with_table (opened k)) (with_table (idle (suc k))) table_then (end_applies k);
     before = before_next k there.held there.before;
   }
 

@@ -31,6 +31,7 @@ pub mod Snapshots
 pub mod SomeBook
 pub mod Spelled
 pub mod Standings
+pub mod TableRows
 pub mod Takeover
 pub mod TurnBounds
 pub mod Turns

@@ -1,6 +1,7 @@
 -- The letters of a legal book: they are spelled for its replicas, by those who posted them.
 use Rattle.std.proofs.Common.{◌≡◌, ℕ, ◌<◌, ◌≤◌, Some, None, List, [], ◌∷◌, ◌++◌, length, Option, refl, sym, ap, subst}
 use Rattle.std.specs.List.{AllZip, Contains, flat_map}
+use Rattle.paxos_base.specs.declared.rows.TableSize.{TableSize}
 use Rattle.paxos_base.specs.Ballot.{member_of}
 use Rattle.paxos_base.specs.declared.entry.Vote.{Vote}
 use Rattle.paxos_letter.specs.Letters.{Spells, letter_fault_of, sender_of}
@@ -111,10 +112,10 @@ posted_of n table book letter few legal posted =
     go [] spells each = absurd (spells.letter.some refl)
     go (message ∷ messages) spells each = each message (in_first message messages)
 
-pub posted_heard : (n jobs : ℕ) (table : Table) (book : List Row) (letter : PostedLetter) → IsLegal n table book → Contains (standing_after n (first_rows table) book).posted letter → (messages : List Message) × IsHeardAs n jobs letter.bytes letter.from messages
-posted_heard n jobs table book letter legal posted =
+pub posted_heard : (n : ℕ) (size : TableSize) (table : Table) (book : List Row) (letter : PostedLetter) → IsLegal n table book → Contains (standing_after n (first_rows table) book).posted letter → (messages : List Message) × IsHeardAs n size letter.bytes letter.from messages
+posted_heard n size table book letter legal posted =
     let spelled = (reaches n table book legal).matches.spelled letter posted in
-    (heard_in jobs (flat_map packets_of spelled.messages), record { packets = flat_map packets_of spelled.messages; spells = spelled.spells; heard = refl })
+    (heard_in size (flat_map packets_of spelled.messages), record { packets = flat_map packets_of spelled.messages; spells = spelled.spells; heard = refl })
 
 -- ---- the turn of a step
 

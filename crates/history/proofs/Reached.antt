@@ -8,6 +8,7 @@ use Rattle.std.proofs.lemmas.List.{take_all}
 use Rattle.std.proofs.lemmas.List.Concat.{flat_map-append}
 use Rattle.std.proofs.lemmas.List.Sums.{fold_push}
 use Rattle.std.proofs.lemmas.List.Elements.{Contains-append_left, Contains-append_right, Contains-append_cases}
+use Rattle.paxos_base.specs.declared.rows.TableSize.{TableSize}
 use Rattle.paxos_base.specs.declared.durable.Durable.{Durable}
 use Rattle.paxos_base.specs.declared.entry.Kind.{Kind}
 use Rattle.paxos_base.specs.declared.entry.Vote.{Vote}
@@ -20,7 +21,7 @@ use Rattle.paxos_letter.specs.Letters.{Spells}
 use Rattle.paxos_letter.proofs.LetterLemmas.{letter_again}
 use Rattle.paxos_letter.proofs.PacketBack.{same_packets}
 use Rattle.due_set.specs.Table.{Table}
-use Rattle.launch_machine.specs.Clerk.{first_rows}
+use Rattle.launch_machine.specs.Clerk.{first_rows, table_size}
 use Rattle.step_spec.specs.Act.{Act, Call, Send, Restart, after_act}
 use Rattle.step_spec.specs.Folds.{Addressed, after_acts, calls_of, learnt_of, letter_of, letters_of, sent_by, sent_to}
 use Rattle.step_spec.specs.Heard.{heard_as, packets_of}
@@ -62,11 +63,11 @@ pub record SpellsSaid (n : ℕ) (said : List Saying) (letter : PostedLetter) : T
 
 -- What a book comes to is what the turns come to in a world: what its letters spell was said there, and so was what they are
 -- heard as, and an answer that waits was given.
-pub record Matches (n jobs : ℕ) (st : Standing) (votes : List CastVote) (learned : List Learning) (w : World) : Type 0 where
+pub record Matches (n : ℕ) (size : TableSize) (st : Standing) (votes : List CastVote) (learned : List Learning) (w : World) : Type 0 where
   pub replicas : (q : ℕ) → w.replicas q ≡ st.replicas q
   pub cast : w.cast ≡ votes
   pub learned_of : (x : Learning) → Contains learned x → Contains w.learned x
-  pub said : (letter : PostedLetter) (messages : List Message) → Contains st.posted letter → IsHeardAs n jobs letter.bytes letter.from messages → AllByRecursion (WasSaid w.said letter.from) messages
+  pub said : (letter : PostedLetter) (messages : List Message) → Contains st.posted letter → IsHeardAs n size letter.bytes letter.from messages → AllByRecursion (WasSaid w.said letter.from) messages
   pub spelled : (letter : PostedLetter) → Contains st.posted letter → SpellsSaid n w.said letter
   pub answers : (q : ℕ) (row : SchedRow) → st.waits q ≡ Some row → Contains w.answered (ending_of q row)
 
@@ -142,12 +143,12 @@ addressed_sends self acts addressed message has inside =
     sent_sends self.me of.of acts message (subst (λ ms. Contains ms message) messages inside)
 
 -- bytes that spell messages that were said are heard as such
-spelled_said : (n jobs : ℕ) (said : List Saying) (from : ℕ) (sent heard : List Message) (bytes : List ℕ) → Spells n from (flat_map packets_of sent) bytes → ((message : Message) → Contains sent message → HasSaid said from message) → IsHeardAs n jobs bytes from heard → AllByRecursion (WasSaid said from) heard
-spelled_said n jobs said from sent heard bytes spells has is =
+spelled_said : (n : ℕ) (size : TableSize) (said : List Saying) (from : ℕ) (sent heard : List Message) (bytes : List ℕ) → Spells n from (flat_map packets_of sent) bytes → ((message : Message) → Contains sent message → HasSaid said from message) → IsHeardAs n size bytes from heard → AllByRecursion (WasSaid said from) heard
+spelled_said n size said from sent heard bytes spells has is =
     let one = letter_again n from (flat_map packets_of sent) bytes spells in
     let two = letter_again n from is.packets bytes is.spells in
     let same : is.packets ≡ flat_map packets_of sent = same_packets from from is.packets (flat_map packets_of sent) (sym two.fields ∙ one.fields) in
-    rw is.heard (elim (cases_Bool (is_small_letter jobs is.packets)) [
+    rw is.heard (elim (cases_Bool (is_small_letter size is.packets)) [
       | inl small ↦ rw small (rw (same, messages_heard sent) (all_heard_said said from sent has))
       | inr large ↦ rw large tt
     ])
@@ -168,8 +169,8 @@ with_eq by one two first second q same all =
     elim (cases_Bool (eqb q by)) [ inl here ↦ rw here same | inr other ↦ rw other (all q) ]
 
 -- the same standing, by its replicas, its letters and the answers that wait
-matches_as : (n jobs : ℕ) (st st' : Standing) (votes votes' : List CastVote) (learned learned' : List Learning) (w : World) → ((q : ℕ) → st.replicas q ≡ st'.replicas q) → st.posted ≡ st'.posted → ((q : ℕ) (row : SchedRow) → st'.waits q ≡ Some row → Contains w.answered (ending_of q row)) → votes ≡ votes' → ((x : Learning) → Contains learned' x → Contains learned x) → Matches n jobs st votes learned w → Matches n jobs st' votes' learned' w
-matches_as n jobs st st' votes votes' learned learned' w replicas posted answers same less m = record {
+matches_as : (n : ℕ) (size : TableSize) (st st' : Standing) (votes votes' : List CastVote) (learned learned' : List Learning) (w : World) → ((q : ℕ) → st.replicas q ≡ st'.replicas q) → st.posted ≡ st'.posted → ((q : ℕ) (row : SchedRow) → st'.waits q ≡ Some row → Contains w.answered (ending_of q row)) → votes ≡ votes' → ((x : Learning) → Contains learned' x → Contains learned x) → Matches n size st votes learned w → Matches n size st' votes' learned' w
+matches_as n size st st' votes votes' learned learned' w replicas posted answers same less m = record {
   replicas = λ q. m.replicas q ∙ replicas q;
   cast = m.cast ∙ same;
   learned_of = λ x has. m.learned_of x (less x has);
@@ -179,8 +180,8 @@ matches_as n jobs st st' votes votes' learned learned' w replicas posted answers
 }
 
 -- acts of which no letter leaves
-quiet_acts : (n jobs : ℕ) (st : Standing) (votes : List CastVote) (learned : List Learning) (w : World) (who : ℕ) (event : Option Event) (answer : Option Kind) (acts : List Act) → Matches n jobs st votes learned w → Matches n jobs (record st { replicas = with_replica who (after_acts acts (st.replicas who)) st.replicas }) (votes ++ cast_votes (Some who) (votes_of acts)) learned (after_all (doings_of who event answer acts) w)
-quiet_acts n jobs st votes learned w who event answer acts m = record {
+quiet_acts : (n : ℕ) (size : TableSize) (st : Standing) (votes : List CastVote) (learned : List Learning) (w : World) (who : ℕ) (event : Option Event) (answer : Option Kind) (acts : List Act) → Matches n size st votes learned w → Matches n size (record st { replicas = with_replica who (after_acts acts (st.replicas who)) st.replicas }) (votes ++ cast_votes (Some who) (votes_of acts)) learned (after_all (doings_of who event answer acts) w)
+quiet_acts n size st votes learned w who event answer acts m = record {
   replicas = λ q. all_replicas who event answer acts w q ∙ with_eq who _ _ w.replicas st.replicas q (ap (after_acts acts) (m.replicas who)) m.replicas;
   cast = all_cast who event answer acts w ∙ ap (λ cast. cast ++ cast_votes (Some who) (votes_of acts)) m.cast;
   learned_of = λ x has. rw (all_learned who event answer acts w) (Contains-append_left w.learned (learned_entries (Some who) (learnt_of acts)) x (m.learned_of x has));
@@ -190,9 +191,9 @@ quiet_acts n jobs st votes learned w who event answer acts m = record {
 }
 
 -- acts of a step, with its letters
-step_acts : (n jobs : ℕ) (st : Standing) (votes : List CastVote) (learned : List Learning) (w : World) (who : ℕ) (event : Option Event) (answer : Option Kind) (acts : List Act) (letters : List OutLetter) → AreLettersOf (identity_of n who) acts letters → Matches n jobs st votes learned w → Matches n jobs (record st { replicas = with_replica who (after_acts acts (st.replicas who)) st.replicas; posted = st.posted ++ post who letters }) (votes ++ cast_votes (Some who) (votes_of acts)) (learned ++ learned_entries (Some who) (learnt_of acts)) (after_all (doings_of who event answer acts) w)
-step_acts n jobs st votes learned w who event answer acts letters spelled m =
-    let quiet = quiet_acts n jobs st votes learned w who event answer acts m in
+step_acts : (n : ℕ) (size : TableSize) (st : Standing) (votes : List CastVote) (learned : List Learning) (w : World) (who : ℕ) (event : Option Event) (answer : Option Kind) (acts : List Act) (letters : List OutLetter) → AreLettersOf (identity_of n who) acts letters → Matches n size st votes learned w → Matches n size (record st { replicas = with_replica who (after_acts acts (st.replicas who)) st.replicas; posted = st.posted ++ post who letters }) (votes ++ cast_votes (Some who) (votes_of acts)) (learned ++ learned_entries (Some who) (learnt_of acts)) (after_all (doings_of who event answer acts) w)
+step_acts n size st votes learned w who event answer acts letters spelled m =
+    let quiet = quiet_acts n size st votes learned w who event answer acts m in
     record {
       replicas = quiet.replicas;
       cast = quiet.cast;
@@ -228,15 +229,15 @@ step_acts n jobs st votes learned w who event answer acts letters spelled m =
       each = λ message has. all_said who event answer acts w message (addressed_sends (identity_of n who) acts addressed message there has);
     }
 
-    new_letter : (letter : PostedLetter) (messages : List Message) (sent : OutLetter) (addressed : Addressed) → record { from = who; to = sent.to; bytes = sent.bytes } ≡ letter → Contains (letters_of (identity_of n who) acts) addressed → IsSpelled n who addressed sent → IsHeardAs n jobs letter.bytes letter.from messages → AllByRecursion (WasSaid (after_all (doings_of who event answer acts) w).said letter.from) messages
+    new_letter : (letter : PostedLetter) (messages : List Message) (sent : OutLetter) (addressed : Addressed) → record { from = who; to = sent.to; bytes = sent.bytes } ≡ letter → Contains (letters_of (identity_of n who) acts) addressed → IsSpelled n who addressed sent → IsHeardAs n size letter.bytes letter.from messages → AllByRecursion (WasSaid (after_all (doings_of who event answer acts) w).said letter.from) messages
     new_letter letter messages sent addressed is there spells heard =
         let posted : PostedLetter = record { from = who; to = sent.to; bytes = sent.bytes } in
         subst (λ (l : PostedLetter). AllByRecursion (WasSaid (after_all (doings_of who event answer acts) w).said l.from) messages) is
-        (spelled_said n jobs (after_all (doings_of who event answer acts) w).said who addressed.messages messages sent.bytes spells.spells
+        (spelled_said n size (after_all (doings_of who event answer acts) w).said who addressed.messages messages sent.bytes spells.spells
         (λ message has. all_said who event answer acts w message (addressed_sends (identity_of n who) acts addressed message there has))
-        (subst (λ (l : PostedLetter). IsHeardAs n jobs l.bytes l.from messages) (sym is) heard))
+        (subst (λ (l : PostedLetter). IsHeardAs n size l.bytes l.from messages) (sym is) heard))
 
-pub heard_event : (n : ℕ) (table : Table) (st : Standing) (votes : List CastVote) (learned : List Learning) (w : World) (who : ℕ) (cause : Cause) (event : Event) → Matches n (length table.jobs) st votes learned w → IsEventOfCause n table st who cause event → TellsWhatWasSaid (record { self = identity_of n who; table = table; event = Some event; said = w.said; answered = w.answered }) event
+pub heard_event : (n : ℕ) (table : Table) (st : Standing) (votes : List CastVote) (learned : List Learning) (w : World) (who : ℕ) (cause : Cause) (event : Event) → Matches n (table_size table) st votes learned w → IsEventOfCause n table st who cause event → TellsWhatWasSaid (record { self = identity_of n who; table = table; event = Some event; said = w.said; answered = w.answered }) event
 heard_event n table st votes learned w who cause.Campaign event m is = rw is tt
 heard_event n table st votes learned w who (cause.Tick now) event m (inside, plan, is) = rw is tt
 heard_event n table st votes learned w who (cause.Hear number) event m is =
@@ -244,7 +245,7 @@ heard_event n table st votes learned w who (cause.Hear number) event m is =
 heard_event n table st votes learned w who cause.Answer event m is = rw is.is (m.answers who is.row is.waits)
 
 -- what a replica takes in a book it may take in the world
-pub may_take : (n : ℕ) (table : Table) (st : Standing) (votes : List CastVote) (learned : List Learning) (w : World) (who : ℕ) (cause : Cause) (event : Event) → Matches n (length table.jobs) st votes learned w → TakesTurn n table st who cause event → MayTake n table w who event
+pub may_take : (n : ℕ) (table : Table) (st : Standing) (votes : List CastVote) (learned : List Learning) (w : World) (who : ℕ) (cause : Cause) (event : Event) → Matches n (table_size table) st votes learned w → TakesTurn n table st who cause event → MayTake n table w who event
 may_take n table st votes learned w who cause event m takes = record {
   member = takes.member;
   planned = subst (λ s. IsPlanned table s event) (sym (m.replicas who)) takes.planned;
@@ -267,7 +268,7 @@ pub record Goes (n : ℕ) (table : Table) (most : ℕ) (w : World) (st : Standin
   pub turns : List taken.Transition
   pub few : steps_in turns ≤ most
   pub are : AreTransitions n table w turns
-  pub matches : Matches n (length table.jobs) st votes learned (after_transitions n turns w)
+  pub matches : Matches n (table_size table) st votes learned (after_transitions n turns w)
 
 -- what the scheduler says that the launch came to, where it answered the call of a turn
 abbrev kind_of_row : Option SchedRow → Option Kind
@@ -318,9 +319,9 @@ told_so who event acts w row answer calls jobs ats =
     subst (λ (ending : Ending). Contains (after_all (doings_of who event (Some answer.kind) acts) w).answered ending) same (all_answered who event answer.kind acts w row calls)
 
 -- the answer that waits for a replica after its step was given, now or before
-answers_after : (n jobs : ℕ) (st : Standing) (votes : List CastVote) (learned : List Learning) (w : World) (who : ℕ) (event : Option Event) (acts : List Act) (made : Option CallRow) → Matches n jobs st votes learned w → IsMade st.held (calls_of acts) made
+answers_after : (n : ℕ) (size : TableSize) (st : Standing) (votes : List CastVote) (learned : List Learning) (w : World) (who : ℕ) (event : Option Event) (acts : List Act) (made : Option CallRow) → Matches n size st votes learned w → IsMade st.held (calls_of acts) made
     → (q : ℕ) (row : SchedRow) → with_fact who (answer_to made) st.waits q ≡ Some row → Contains (after_all (doings_of who event (kind_of_answer made) acts) w).answered (ending_of q row)
-answers_after n jobs st votes learned w who event acts made m is_made q row is = elim (cases_Bool (eqb q who)) [
+answers_after n size st votes learned w who event acts made m is_made q row is = elim (cases_Bool (eqb q who)) [
   | inl here ↦
       let now : answer_to made ≡ Some row = rw here at is in
       let same : q ≡ who = eqb-true q who here in
@@ -332,19 +333,19 @@ answers_after n jobs st votes learned w who event acts made m is_made q row is =
   | inr other ↦ all_answered_more who event (kind_of_answer made) acts w (ending_of q row) (m.answers q row (rw other at is))
 ]
 
-did : (n : ℕ) (table : Table) (st : Standing) (votes : List CastVote) (learned : List Learning) (w : World) (who : ℕ) (cause : Cause) (row : Row) (made : Option CallRow) → Matches n (length table.jobs) st votes learned w → MayFollow n table st (Did who cause made) row → Goes n table 1 w (after_row n st (Did who cause made) row.event row.letters) (votes ++ cast_votes (Some who) row.votes) (learned ++ learned_entries (Some who) row.learnt)
+did : (n : ℕ) (table : Table) (st : Standing) (votes : List CastVote) (learned : List Learning) (w : World) (who : ℕ) (cause : Cause) (row : Row) (made : Option CallRow) → Matches n (table_size table) st votes learned w → MayFollow n table st (Did who cause made) row → Goes n table 1 w (after_row n st (Did who cause made) row.event row.letters) (votes ++ cast_votes (Some who) row.votes) (learned ++ learned_entries (Some who) row.learnt)
 unfolding after_row
 did n table st votes learned w who cause row made m (takes, brings) =
     let acts : step (identity_of n who) row.event (w.replicas who) ≡ acts_at n st who row.event = ap (step (identity_of n who) row.event) (m.replicas who) in
-    let after = step_acts n (length table.jobs) st votes learned w who (Some row.event) (kind_of_answer made) (acts_at n st who row.event) row.letters brings.letters m in
-    let same = matches_as n (length table.jobs) _ (after_row n st (Did who cause made) row.event row.letters) _ (votes ++ cast_votes (Some who) row.votes) _ (learned ++ learned_entries (Some who) row.learnt) _
-    (λ q. refl) refl (answers_after n (length table.jobs) st votes learned w who (Some row.event) (acts_at n st who row.event) made m brings.call)
+    let after = step_acts n (table_size table) st votes learned w who (Some row.event) (kind_of_answer made) (acts_at n st who row.event) row.letters brings.letters m in
+    let same = matches_as n (table_size table) _ (after_row n st (Did who cause made) row.event row.letters) _ (votes ++ cast_votes (Some who) row.votes) _ (learned ++ learned_entries (Some who) row.learnt) _
+    (λ q. refl) refl (answers_after n (table_size table) st votes learned w who (Some row.event) (acts_at n st who row.event) made m brings.call)
     (rw brings.votes refl) (λ x has. rw (← brings.learnt) has) after in
     record {
       turns = taken.Did who row.event (kind_of_answer made) ∷ [];
       few = omega arith;
       are = (may_take n table st votes learned w who cause row.event m takes, tt);
-      matches = subst (λ some. Matches n (length table.jobs) (after_row n st (Did who cause made) row.event row.letters) (votes ++ cast_votes (Some who) row.votes) (learned ++ learned_entries (Some who) row.learnt) (after_all (doings_of who (Some row.event) (kind_of_answer made) some) w)) (sym acts) same;
+      matches = subst (λ some. Matches n (table_size table) (after_row n st (Did who cause made) row.event row.letters) (votes ++ cast_votes (Some who) row.votes) (learned ++ learned_entries (Some who) row.learnt) (after_all (doings_of who (Some row.event) (kind_of_answer made) some) w)) (sym acts) same;
     }
 
 -- a turn that brings nothing adds no vote and no learned entry
@@ -362,29 +363,29 @@ none_waits who waits q row is = elim (cases_Bool (eqb q who)) [
 ]
 
 -- a replica that stops and has kept what it kept
-stopped : (n : ℕ) (table : Table) (st : Standing) (votes : List CastVote) (learned : List Learning) (w : World) (who : ℕ) (row : Row) (kept : Durable) → Matches n (length table.jobs) st votes learned w → who < n → (st.replicas who).kept ≡ kept → row.votes ≡ [] → row.learnt ≡ [] → Goes n table 1 w (after_stop who kept st) (votes ++ cast_votes (Some who) row.votes) (learned ++ learned_entries (Some who) row.learnt)
+stopped : (n : ℕ) (table : Table) (st : Standing) (votes : List CastVote) (learned : List Learning) (w : World) (who : ℕ) (row : Row) (kept : Durable) → Matches n (table_size table) st votes learned w → who < n → (st.replicas who).kept ≡ kept → row.votes ≡ [] → row.learnt ≡ [] → Goes n table 1 w (after_stop who kept st) (votes ++ cast_votes (Some who) row.votes) (learned ++ learned_entries (Some who) row.learnt)
 unfolding after_act
 stopped n table st votes learned w who row kept m member is no_vote none = record {
   turns = taken.Restarted who ∷ [];
   few = omega arith;
   are = (member, tt);
-  matches = matches_as n (length table.jobs) _ (after_stop who kept st) _ (votes ++ cast_votes (Some who) row.votes) learned (learned ++ learned_entries (Some who) row.learnt) _
+  matches = matches_as n (table_size table) _ (after_stop who kept st) _ (votes ++ cast_votes (Some who) row.votes) learned (learned ++ learned_entries (Some who) row.learnt) _
       (λ q. with_eq who _ _ st.replicas st.replicas q (ap (started who) is) (λ p. refl)) refl
       (λ q answer waits. still.answers q answer (none_waits who st.waits q answer waits)) (no_votes who votes row.votes no_vote) (no_learned who learned row.learnt none)
       still;
 }
   where
-    still : Matches n (length table.jobs) (record st { replicas = with_replica who (after_acts (Restart who ∷ []) (st.replicas who)) st.replicas }) (votes ++ cast_votes (Some who) (votes_of (Restart who ∷ []))) learned (after_all (doings_of who None None (Restart who ∷ [])) w)
-    still = quiet_acts n (length table.jobs) st votes learned w who None None (Restart who ∷ []) m
+    still : Matches n (table_size table) (record st { replicas = with_replica who (after_acts (Restart who ∷ []) (st.replicas who)) st.replicas }) (votes ++ cast_votes (Some who) (votes_of (Restart who ∷ []))) learned (after_all (doings_of who None None (Restart who ∷ [])) w)
+    still = quiet_acts n (table_size table) st votes learned w who None None (Restart who ∷ []) m
 
 -- a replica that stops within a step, and has kept its change
-stopped_kept : (n : ℕ) (table : Table) (st : Standing) (votes : List CastVote) (learned : List Learning) (w : World) (who : ℕ) (cause : Cause) (row : Row) → Matches n (length table.jobs) st votes learned w → TakesTurn n table st who cause row.event → StopsWithin n st who row true → Goes n table 1 w (after_stop who (kept_at n st who row.event true) st) (votes ++ cast_votes (Some who) row.votes) (learned ++ learned_entries (Some who) row.learnt)
+stopped_kept : (n : ℕ) (table : Table) (st : Standing) (votes : List CastVote) (learned : List Learning) (w : World) (who : ℕ) (cause : Cause) (row : Row) → Matches n (table_size table) st votes learned w → TakesTurn n table st who cause row.event → StopsWithin n st who row true → Goes n table 1 w (after_stop who (kept_at n st who row.event true) st) (votes ++ cast_votes (Some who) row.votes) (learned ++ learned_entries (Some who) row.learnt)
 unfolding after_act
 stopped_kept n table st votes learned w who cause row m takes within = record {
   turns = taken.Stopped who row.event (front_of acts) (back_of acts) ∷ taken.Restarted who ∷ [];
   few = omega arith;
   are = ((may_take n table st votes learned w who cause row.event m takes, ap (step (identity_of n who) row.event) (m.replicas who) ∙ parts_of acts), (takes.member, tt));
-  matches = matches_as n (length table.jobs) _ (after_stop who (kept_at n st who row.event true) st) _ (votes ++ cast_votes (Some who) row.votes) learned (learned ++ learned_entries (Some who) row.learnt) _
+  matches = matches_as n (table_size table) _ (after_stop who (kept_at n st who row.event true) st) _ (votes ++ cast_votes (Some who) row.votes) learned (learned ++ learned_entries (Some who) row.learnt) _
       (λ q. with_eq who _ _ st1.replicas st1.replicas q (ap (started who) is_kept) (λ p. refl) ∙ with_twice who (after_acts silent (st.replicas who)) (started who (kept_at n st who row.event true)) st.replicas q)
       refl (λ q answer waits. still.answers q answer (none_waits who st.waits q answer waits)) cast_is (no_learned who learned row.learnt within.learnt)
       still;
@@ -402,11 +403,11 @@ stopped_kept n table st votes learned w who cause row m takes within = record {
     st1 : Standing
     st1 = record st { replicas = with_replica who (after_acts silent (st.replicas who)) st.replicas }
 
-    first : Matches n (length table.jobs) st1 (votes ++ cast_votes (Some who) (votes_of silent)) learned (after_all (doings_of who (Some row.event) None silent) w)
-    first = quiet_acts n (length table.jobs) st votes learned w who (Some row.event) None silent m
+    first : Matches n (table_size table) st1 (votes ++ cast_votes (Some who) (votes_of silent)) learned (after_all (doings_of who (Some row.event) None silent) w)
+    first = quiet_acts n (table_size table) st votes learned w who (Some row.event) None silent m
 
-    still : Matches n (length table.jobs) (record st1 { replicas = with_replica who (after_acts (Restart who ∷ []) (st1.replicas who)) st1.replicas }) ((votes ++ cast_votes (Some who) (votes_of silent)) ++ cast_votes (Some who) (votes_of (Restart who ∷ []))) learned (after_all (doings_of who None None (Restart who ∷ [])) (after_all (doings_of who (Some row.event) None silent) w))
-    still = quiet_acts n (length table.jobs) st1 (votes ++ cast_votes (Some who) (votes_of silent)) learned _ who None None (Restart who ∷ []) first
+    still : Matches n (table_size table) (record st1 { replicas = with_replica who (after_acts (Restart who ∷ []) (st1.replicas who)) st1.replicas }) ((votes ++ cast_votes (Some who) (votes_of silent)) ++ cast_votes (Some who) (votes_of (Restart who ∷ []))) learned (after_all (doings_of who None None (Restart who ∷ [])) (after_all (doings_of who (Some row.event) None silent) w))
+    still = quiet_acts n (table_size table) st1 (votes ++ cast_votes (Some who) (votes_of silent)) learned _ who None None (Restart who ∷ []) first
 
     is_kept : (st1.replicas who).kept ≡ kept_at n st who row.event true
     is_kept = ap (λ s. s.kept) (with_here who (after_acts silent (st.replicas who)) st.replicas) ∙ stops.kept ∙ sym (ap (λ deltas. durable_after deltas (st.replicas who).kept) within.changes)
@@ -415,7 +416,7 @@ stopped_kept n table st votes learned w who cause row m takes within = record {
     cast_is = append-nil _ ∙ ap (λ some. votes ++ cast_votes (Some who) some) (stops.votes ∙ sym within.votes)
 
 -- a turn of a book is none or more turns of the world
-goes : (n : ℕ) (table : Table) (st : Standing) (votes : List CastVote) (learned : List Learning) (w : World) (turn : Turn) (row : Row) → Matches n (length table.jobs) st votes learned w → MayFollow n table st turn row → Goes n table 1 w (after_row n st turn row.event row.letters) (votes ++ cast_votes (turn_of turn) row.votes) (learned ++ learned_entries (turn_of turn) row.learnt)
+goes : (n : ℕ) (table : Table) (st : Standing) (votes : List CastVote) (learned : List Learning) (w : World) (turn : Turn) (row : Row) → Matches n (table_size table) st votes learned w → MayFollow n table st turn row → Goes n table 1 w (after_row n st turn row.event row.letters) (votes ++ cast_votes (turn_of turn) row.votes) (learned ++ learned_entries (turn_of turn) row.learnt)
 unfolding after_row
 goes n table st votes learned w (Did who cause made) row m may = did n table st votes learned w who cause row made m may
 goes n table st votes learned w (Stopped who None true) row m (member, runs, kept, nothing) = absurd cc
@@ -428,14 +429,14 @@ goes n table st votes learned w (Restarted who) row m (member, stopped_before, n
   turns = [];
   few = omega arith;
   are = tt;
-  matches = matches_as n (length table.jobs) st _ votes (votes ++ cast_votes (Some who) row.votes) learned (learned ++ learned_entries (Some who) row.learnt) w
+  matches = matches_as n (table_size table) st _ votes (votes ++ cast_votes (Some who) row.votes) learned (learned ++ learned_entries (Some who) row.learnt) w
       (λ q. refl) refl (λ q answer waits. m.answers q answer waits) (sym (append-nil votes) ∙ no_votes who votes row.votes nothing.votes) (no_learned who learned row.learnt nothing.learnt) m;
 }
 goes n table st votes learned w (Arrived number) row m may = record {
   turns = [];
   few = omega arith;
   are = tt;
-  matches = matches_as n (length table.jobs) st _ votes (votes ++ []) learned (learned ++ []) w
+  matches = matches_as n (table_size table) st _ votes (votes ++ []) learned (learned ++ []) w
       (λ q. refl) refl (λ q answer waits. m.answers q answer waits) (sym (append-nil votes)) (λ x has. subst (λ rows. Contains rows x) (append-nil learned) has) m;
 }
 
@@ -475,7 +476,7 @@ reaches_next n table book row before may =
       are = are_append n table (first_world (first_rows table)) before.turns next.turns before.are next.are;
       matches =
           rw (after_append n before.turns next.turns (first_world (first_rows table)))
-          (matches_as n (length table.jobs) _ (standing_after n (first_rows table) (book ++ row ∷ [])) _ (votes_in (book ++ row ∷ [])) _ (learned_in (book ++ row ∷ [])) _
+          (matches_as n (table_size table) _ (standing_after n (first_rows table) (book ++ row ∷ [])) _ (votes_in (book ++ row ∷ [])) _ (learned_in (book ++ row ∷ [])) _
           (λ q. ap (λ st. st.replicas q) (sym (fold_push _ (first_standing n (first_rows table)) book row)))
           (ap (λ st. st.posted) (sym (fold_push _ (first_standing n (first_rows table)) book row)))
           (λ q answer waits. next.matches.answers q answer (ap (λ st. st.waits q) (sym (fold_push _ (first_standing n (first_rows table)) book row)) ∙ waits))

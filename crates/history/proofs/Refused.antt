@@ -1,8 +1,9 @@
 -- Turns that no book of two replicas without jobs may begin with.
-use Rattle.std.proofs.Common.{◌≡◌, ℕ, ℤ, pos, Bool, true, false, Option, Some, None, List, [], ◌∷◌, length, refl, ap, arith, subst}
+use Rattle.std.proofs.Common.{◌≡◌, ◌<◌, ℕ, ℤ, pos, Bool, true, false, Option, Some, None, List, [], ◌∷◌, length, refl, ap, arith, subst}
 use Rattle.std.specs.List.{Contains, slice_get}
 use Rattle.launch_machine.specs.Clerk.{first_rows}
 use Rattle.launch_machine.specs.declared.machine.Intent.TheVariants as intent
+use Rattle.launch_machine.proofs.MachineLemmas.{start_within}
 use Rattle.paxos_base.specs.Members.{with_member}
 use Rattle.cluster_sched.specs.declared.row.SchedRow.{SchedRow}
 use Rattle.step_spec.specs.Folds.{calls_of, deltas_of, learnt_of, calls_by, learnt_by, sent_by}
@@ -82,14 +83,12 @@ no_entries_of_a_campaign row (takes, brings) =
     subst (λ event. row.learnt ≡ learnt_of (acts_at 2 beginning 0 event)) takes.event_of brings.learnt
 
 -- a launch table without jobs asks for no start
-pub no_plan : (row : Row) (job : ℕ) (at : ℤ) → row.event ≡ told.Tick (pos 0) (record { rows = []; intent = intent.Start job at }) → MayFollow 2 no_jobs beginning (Did 0 (Tick (record { 0 = pos 0 })) None) row → ⊥
+pub no_plan : (row : Row) (job : ℕ) (at : ℤ) → row.event ≡ told.Tick (pos 0) (record { rows = first_rows no_jobs; intent = intent.Start job at }) → MayFollow 2 no_jobs beginning (Did 0 (Tick (record { 0 = pos 0 })) None) row → ⊥
 no_plan row job at is (takes, brings) =
-    let planned : IsPlanned no_jobs (beginning.replicas 0) (told.Tick (pos 0) (record { rows = []; intent = intent.Start job at })) =
+    let planned : IsPlanned no_jobs (beginning.replicas 0) (told.Tick (pos 0) (record { rows = first_rows no_jobs; intent = intent.Start job at })) =
     subst (λ event. IsPlanned no_jobs (beginning.replicas 0) event) is takes.planned in
-    none planned.1.1.takes.is_row
-  where
-    none : {X : Type 0} {x : X} → slice_get [] job ≡ Some x → ⊥
-    none there = cc
+    let below : job < 0 = start_within no_jobs job planned.1.1.takes.row at (pos 0) planned.1.1.takes.may in
+    omega (arith, below)
 
 -- a letter is heard by its addressee alone
 pub no_other_addressee : (first row : Row) (made : Option CallRow) → first.turn ≡ Did 0 Campaign None → MayFollow 2 no_jobs beginning first.turn first → MayFollow 2 no_jobs (standing_after 2 (first_rows no_jobs) (first ∷ [])) (Did 0 (Hear 0) made) row → ⊥

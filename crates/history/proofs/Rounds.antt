@@ -20,7 +20,7 @@ use Rattle.term_core.specs.Term.{new_flight}
 use Rattle.term_core.specs.declared.flight.Flight.{Flight}
 use Rattle.term_core.specs.declared.term.Term.TheVariants.{Follower, Leader}
 use Rattle.cluster_sched.specs.declared.row.SchedRow.{SchedRow}
-use Rattle.launch_machine.specs.Clerk.{first_rows}
+use Rattle.launch_machine.specs.Clerk.{first_rows, table_size}
 use Rattle.launch_machine.specs.declared.machine.Intent.TheVariants as intent
 use Rattle.step_spec.specs.Act.{Act, Observe, Cast, Count, Learn, Call, Propose, Send, after_act}
 use Rattle.step_spec.specs.Folds.{after_acts, calls_by, sent_by}
@@ -183,15 +183,15 @@ known_spells slot e small fits = record {
   spelled = refl;
 }
 
-accept_heard : (slot : ℕ) (e : Entry) → slot < 2 ^ 62 → FitEntryFields (numbers_of e) → IsHeardAs 2 1 (spelling 0 (packet.Accept 8 slot e ∷ [])) 0 (Accept (vote slot e) ∷ [])
+accept_heard : (slot : ℕ) (e : Entry) → slot < 2 ^ 62 → FitEntryFields (numbers_of e) → IsHeardAs 2 (table_size busy) (spelling 0 (packet.Accept 8 slot e ∷ [])) 0 (Accept (vote slot e) ∷ [])
 unfolding messages_of
 accept_heard slot e small fits = record { packets = packet.Accept 8 slot e ∷ []; spells = accept_spells slot e small fits; heard = rw (lt-ltb slot (2 ^ 62) small) refl }
 
-accepted_heard : (slot : ℕ) → slot < 2 ^ 62 → IsHeardAs 2 1 (spelling 1 (packet.Accepted 8 slot ∷ [])) 1 (Accepted 8 slot ∷ [])
+accepted_heard : (slot : ℕ) → slot < 2 ^ 62 → IsHeardAs 2 (table_size busy) (spelling 1 (packet.Accepted 8 slot ∷ [])) 1 (Accepted 8 slot ∷ [])
 unfolding messages_of
 accepted_heard slot small = record { packets = packet.Accepted 8 slot ∷ []; spells = accepted_spells slot small; heard = rw (lt-ltb slot (2 ^ 62) small) refl }
 
-known_heard : (slot : ℕ) (e : Entry) → slot < 2 ^ 62 → FitEntryFields (numbers_of e) → IsHeardAs 2 1 (spelling 0 (packet.Known slot e ∷ [])) 0 (Known slot e ∷ [])
+known_heard : (slot : ℕ) (e : Entry) → slot < 2 ^ 62 → FitEntryFields (numbers_of e) → IsHeardAs 2 (table_size busy) (spelling 0 (packet.Known slot e ∷ [])) 0 (Known slot e ∷ [])
 unfolding messages_of
 known_heard slot e small fits = record { packets = packet.Known slot e ∷ []; spells = known_spells slot e small fits; heard = rw (lt-ltb slot (2 ^ 62) small) refl }
 
@@ -201,7 +201,7 @@ last_there (y ∷ xs) x = last_there xs x
 
 -- the last letter is heard by its addressee
 pub is_heard : (standing : Standing) (who number : ℕ) (front : List PostedLetter) (letter : PostedLetter) (messages : List Message) → standing.posted ≡ front ++ letter ∷ []
-    → number ≡ length front → letter.to ≡ who → IsHeardAs 2 1 letter.bytes letter.from messages → IsHeard 2 1 standing who number (Hear letter.from messages)
+    → number ≡ length front → letter.to ≡ who → IsHeardAs 2 (table_size busy) letter.bytes letter.from messages → IsHeard 2 (table_size busy) standing who number (Hear letter.from messages)
 is_heard standing who number front letter messages posted at to heard = record {
   letter = letter;
   there = rw (posted, at) (last_there front letter);

@@ -6,6 +6,7 @@ use Rattle.due_set.specs.Table.{IsSound, Table}
 use Rattle.paxos_base.specs.Durable.{after_delta}
 use Rattle.paxos_base.specs.EntryFields.{FitEntryFields, numbers_of}
 use Rattle.paxos_base.specs.Members.{only_member, with_member}
+use Rattle.paxos_base.specs.Rows.{fresh_row}
 use Rattle.paxos_base.specs.Vote.{put_vote, votes_below, votes_from}
 use Rattle.paxos_base.specs.declared.entry.Entry.{Entry}
 use Rattle.paxos_base.specs.declared.entry.Vote.{Vote}
@@ -16,7 +17,7 @@ use Rattle.paxos_letter.specs.declared.packet.Packet.{Packet}
 use Rattle.paxos_letter.specs.declared.packet.Packet.TheVariants as packet
 use Rattle.term_core.specs.declared.term.Term.TheVariants.{Follower, Candidate}
 use Rattle.cluster_sched.specs.declared.row.SchedRow.{SchedRow}
-use Rattle.launch_machine.specs.Clerk.{first_rows}
+use Rattle.launch_machine.specs.Clerk.{first_rows, table_size}
 use Rattle.launch_machine.specs.declared.machine.Intent.TheVariants as intent
 use Rattle.step_spec.specs.Act.{Act, Observe, Stand, Pledge, Rebase, Send, after_act}
 use Rattle.step_spec.specs.Folds.{after_acts, calls_by, sent_by}
@@ -34,14 +35,14 @@ use Rattle.history.specs.Snapshots.{HasLearned, HasSnapshots, HasTable, posted_i
 use Rattle.history.specs.declared.turn.Cause.TheVariants as cause
 use Rattle.history.specs.declared.turn.Turn.{Turn}
 use Rattle.history.specs.declared.turn.Turn.TheVariants.{Stopped, Restarted}
-use Rattle.history.proofs.Asks.{busy, idle, in_window, minute, minute_fits, sound, start_asked, start_entry}
+use Rattle.history.proofs.Asks.{busy, idle, in_window, minute, minute_fits, sound, start_asked, start_entry, with_table}
 use Rattle.history.proofs.Launches.{Settled, settled}
 use Rattle.history.proofs.Rounds.{AreBelow, accept_spells, flight, following, is_heard, leading, mail, none_from, proposing, sent, start_acts, vote}
 use Rattle.history.proofs.Turns.{AllFollow, Stands, after_rows, did, first_did, legal_append, may_do, second_did}
 
 -- the launch table after 32 launches, and the entry that it asks for then
 abbrev table_rows : List JobRow
-table_rows = idle 32 ∷ []
+table_rows = with_table (idle 32)
 
 abbrev next_entry : Entry
 next_entry = start_entry 32
@@ -53,7 +54,7 @@ plan = record { rows = table_rows; intent = intent.Start 0 (minute 32) }
 -- ---- letters
 
 abbrev snap_packets : List Packet
-snap_packets = packet.Snap 64 1 ∷ packet.SnapRow 64 (idle 32) ∷ []
+snap_packets = packet.Snap 64 2 ∷ packet.SnapRow 64 (idle 32) ∷ packet.SnapRow 64 (fresh_row 1) ∷ []
 
 abbrev promise_packets : List Packet
 promise_packets = packet.Promise 25 64 1 ∷ packet.OldVote 25 64 8 next_entry ∷ []
@@ -77,10 +78,13 @@ later_spells = record {
 
 snap_spells : Spells 2 0 snap_packets (spelling 0 snap_packets)
 snap_spells = record {
-  letter = record { some = λ is. cc; kinds = (refl, (refl, tt)); members_keep = (refl, (refl, tt)); groups = refl };
+  letter = record { some = λ is. cc; kinds = (refl, (refl, (refl, tt))); members_keep = (refl, (refl, (refl, tt))); groups = refl };
   fits = (
     record { kind = lit< tt; from = lit< tt; tag = lit< tt; zero = lit< tt; job = lit< tt; ballot = lit< tt; slot = lit< tt; old = lit< tt; at = grind arith; moment = grind arith; last = grind arith },
-    (record { kind = lit< tt; from = lit< tt; tag = lit< tt; zero = lit< tt; job = lit< tt; ballot = lit< tt; slot = lit< tt; old = lit< tt; at = minute_fits 31 (lit< tt); moment = grind arith; last = minute_fits 31 (lit< tt) }, tt),
+    (
+      record { kind = lit< tt; from = lit< tt; tag = lit< tt; zero = lit< tt; job = lit< tt; ballot = lit< tt; slot = lit< tt; old = lit< tt; at = minute_fits 31 (lit< tt); moment = grind arith; last = minute_fits 31 (lit< tt) },
+      (record { kind = lit< tt; from = lit< tt; tag = lit< tt; zero = lit< tt; job = lit< tt; ballot = lit< tt; slot = lit< tt; old = lit< tt; at = grind arith; moment = grind arith; last = grind arith }, tt),
+    ),
   );
   spelled = refl;
 }
@@ -95,11 +99,11 @@ promise_spells = record {
   spelled = refl;
 }
 
-snap_heard : IsHeardAs 2 1 (spelling 0 snap_packets) 0 (Snap 64 table_rows ∷ [])
+snap_heard : IsHeardAs 2 (table_size busy) (spelling 0 snap_packets) 0 (Snap 64 table_rows ∷ [])
 unfolding messages_of
 snap_heard = record { packets = snap_packets; spells = snap_spells; heard = refl }
 
-promise_heard : IsHeardAs 2 1 (spelling 0 promise_packets) 0 (Promise 25 64 (vote 64 next_entry ∷ []) ∷ Mention 25 ∷ [])
+promise_heard : IsHeardAs 2 (table_size busy) (spelling 0 promise_packets) 0 (Promise 25 64 (vote 64 next_entry ∷ []) ∷ Mention 25 ∷ [])
 unfolding messages_of
 promise_heard = record { packets = promise_packets; spells = promise_spells; heard = refl }
 

@@ -1,6 +1,5 @@
 -- A legal book with some turns.
 use Rattle.std.proofs.Common.{◌≡◌, ℕ, zero, suc, pos, true, false, Some, None, List, [], ◌∷◌, take, refl, arith, subst, lit<}
-use Rattle.std.specs.List.{slice_get}
 use Rattle.paxos_letter.specs.Letters.{Spells}
 use Rattle.paxos_letter.specs.Spelling.{spelling}
 use Rattle.paxos_letter.specs.declared.packet.Packet.{Packet}
@@ -24,6 +23,7 @@ use Rattle.history.specs.Some.{no_jobs}
 use Rattle.history.specs.declared.turn.Cause.TheVariants as cause
 use Rattle.history.specs.declared.turn.Turn.{Turn}
 use Rattle.history.specs.declared.turn.Turn.TheVariants.{Did, Stopped, Restarted}
+use Rattle.history.proofs.TableRows.{rests_without_jobs}
 use Rattle.step_spec.specs.declared.out.OutLetter.{OutLetter}
 
 -- the letter of one packet without an entry, of small numbers
@@ -46,7 +46,7 @@ abbrev takes_lead : Row
 takes_lead = row_of (Did 0 (cause.Hear 1) None) (Hear 1 (Promise 8 0 [] ∷ [])) []
 
 abbrev ticks : Row
-ticks = row_of (Did 0 (cause.Tick (record { 0 = pos 0 })) None) (Tick (pos 0) (record { rows = []; intent = intent.Rest })) (letter_to 1 0 (packet.Lead 8 0) ∷ [])
+ticks = row_of (Did 0 (cause.Tick (record { 0 = pos 0 })) None) (Tick (pos 0) (record { rows = first_rows no_jobs; intent = intent.Rest })) (letter_to 1 0 (packet.Lead 8 0) ∷ [])
 
 abbrev refuses : Row
 refuses = row_of (Did 1 (cause.Hear 0) None) (Hear 0 (Prepare 8 0 ∷ [])) (letter_to 0 1 (packet.Nack 8 8) ∷ [])
@@ -134,14 +134,11 @@ may_tick = (
   record {
     member = lit< tt;
     runs = refl;
-    event_of = (record { since = grind arith; before = grind arith }, record { rows = []; intent = intent.Rest }, refl);
-    planned = (refl, ((λ job at may. nothing_found job may.is_row), (λ job at takes. nothing_found job takes.is_row)));
+    event_of = (record { since = grind arith; before = grind arith }, record { rows = first_rows no_jobs; intent = intent.Rest }, refl);
+    planned = (refl, rests_without_jobs no_jobs (first_rows no_jobs) (pos 0) refl);
   },
   record { letters = (record { to = refl; spells = lead_spells }, tt); votes = refl; learnt = refl; call = refl },
 )
-  where
-    nothing_found : {X : Type 0} {x : X} (k : ℕ) → slice_get [] k ≡ Some x → ⊥
-    nothing_found k is = cc
 
 may_refuse : MayFollow 2 no_jobs (standing_at 4) refuses.turn refuses
 unfolding step campaign tick hear hear_all line on_prepare on_promise after_row after_act after_delta deltas_by learnt_by calls_by sent_by with_member votes_from packets_of messages_of

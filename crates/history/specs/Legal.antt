@@ -1,8 +1,9 @@
 -- Which books are legal: each turn is judged by what stands after those before it.
-use Rattle.std.specs.Prelude.{◌≡◌, ℕ, ◌<◌, Bool, true, false, List, [], ◌∷◌, length, take, Option, None, Some, Result, Ok, Err, slice_get, Contains}
+use Rattle.std.specs.Prelude.{◌≡◌, ℕ, ◌<◌, Bool, true, false, List, [], ◌∷◌, take, Option, None, Some, Result, Ok, Err, slice_get, Contains}
 use Rattle.zone_minutes.specs.Window.{IsInWindow}
+use Rattle.paxos_base.specs.declared.rows.TableSize.{TableSize}
 use Rattle.due_set.specs.Table.{Table}
-use Rattle.launch_machine.specs.Clerk.{first_rows}
+use Rattle.launch_machine.specs.Clerk.{first_rows, table_size}
 use Rattle.paxos_base.specs.declared.durable.Delta.{Delta}
 use Rattle.paxos_base.specs.declared.entry.Vote.{Vote}
 use Rattle.cluster_sched.specs.Fates.{call}
@@ -22,12 +23,12 @@ use Rattle.history.specs.declared.turn.Turn.{Turn}
 use Rattle.history.specs.declared.turn.Turn.TheVariants.{Did, Stopped, Restarted, Arrived}
 
 -- a letter of the book that was sent to the replica is heard
-pub record IsHeard (members jobs : ℕ) (standing : Standing) (who number : ℕ) (event : Event) : Type 0 where
+pub record IsHeard (members : ℕ) (size : TableSize) (standing : Standing) (who number : ℕ) (event : Event) : Type 0 where
   pub letter : PostedLetter
   pub there : slice_get standing.posted number ≡ Some letter
   pub to : letter.to ≡ who
   pub messages : List Message
-  pub heard : IsHeardAs members jobs letter.bytes letter.from messages
+  pub heard : IsHeardAs members size letter.bytes letter.from messages
   pub is : event ≡ told.Hear letter.from messages
 
 -- the answer that waits for the replica is taken
@@ -42,7 +43,7 @@ abbrev pub IsEventOfCause : ℕ → Table → Standing → (who : ℕ) → Cause
 IsEventOfCause members table standing who Campaign event = event ≡ told.Campaign
 IsEventOfCause members table standing who (Tick now) event =
     IsInWindow table.window now.0 × (plan : Plan) × (event ≡ told.Tick now.0 plan)
-IsEventOfCause members table standing who (Hear number) event = IsHeard members (length table.jobs) standing who number event
+IsEventOfCause members table standing who (Hear number) event = IsHeard members (table_size table) standing who number event
 IsEventOfCause members table standing who Answer event = IsAnswered standing who event
 
 -- the replica runs and takes the cause, of which its launch table says what the event has

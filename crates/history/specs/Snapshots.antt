@@ -1,7 +1,7 @@
 -- Turns of two replicas in which one puts its launch table in the place of what it has learned, and the other takes that table.
 use Rattle.std.specs.Prelude.{◌≡◌, ℕ, ◌+◌, ◌<◌, ◌≤◌, ℤ, false, List, [], ◌∷◌, ◌++◌, length, map, take, None, Some, slice_get}
 use Rattle.due_set.specs.Table.{Table}
-use Rattle.launch_machine.specs.Clerk.{first_rows}
+use Rattle.launch_machine.specs.Clerk.{first_rows, table_size}
 use Rattle.paxos_base.specs.Vote.{votes_from}
 use Rattle.paxos_base.specs.declared.entry.Vote.{Vote}
 use Rattle.paxos_base.specs.declared.rows.JobRow.{JobRow}
@@ -67,7 +67,7 @@ pub record AnswersPrepare (table : Table) (rows : List Row) (number ballot slot 
   pub letter : OutLetter
   pub sent : hears.row.letters ≡ letter ∷ []
   pub to : letter.to ≡ 1
-  pub says : IsHeardAs 2 (length table.jobs) letter.bytes 0 (heard_as answer)
+  pub says : IsHeardAs 2 (table_size table) letter.bytes 0 (heard_as answer)
 
 -- A legal book of two replicas that ends with those turns. Both have learned 64 entries or more, and replica 0 has its launch table
 -- in their place from the first of those turns on. Where replica 1, which has lost what it had learned, asks for votes below that

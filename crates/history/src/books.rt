@@ -75,7 +75,7 @@ pub fn some_turns_are_not_legal()
     ensures votes { (row : Row) → MayFollow 2 no_jobs beginning (Did 0 Campaign None) row → row.votes ≡ [] }
     ensures letters { (row : Row) → MayFollow 2 no_jobs beginning (Did 0 Campaign None) row → length row.letters ≡ 1 }
     ensures entries { (row : Row) → MayFollow 2 no_jobs beginning (Did 0 Campaign None) row → row.learnt ≡ [] }
-    ensures plan { (row : Row) (job : ℕ) (at : ℤ) → row.event ≡ told.Tick (pos 0) (record { rows = []; intent = Start job at })
+    ensures plan { (row : Row) (job : ℕ) (at : ℤ) → row.event ≡ told.Tick (pos 0) (record { rows = first_rows no_jobs; intent = Start job at })
         → MayFollow 2 no_jobs beginning (Did 0 (Tick (record { 0 = pos 0 })) None) row → ⊥ }
     ensures addressee { (first row : Row) (made : Option CallRow) → first.turn ≡ Did 0 Campaign None
         → MayFollow 2 no_jobs beginning first.turn first

@@ -1,6 +1,7 @@
 //! Laws of the numbers and the letters of books. Each is the contract of a function that does nothing.
 ghost use Rattle.std.specs.Prelude.{◌≡◌, ℕ, ◌*◌, ◌^◌, ◌<◌, ◌≤◌, Bool, true, List, [], ◌∷◌, ◌++◌, length, flat_map, Option, None, Some, Result, Contains};
 ghost use Rattle.std.specs.List.{AllZip};
+ghost use Rattle.paxos_base.specs.declared.rows.TableSize.{TableSize};
 ghost use Rattle.paxos_base.specs.declared.durable.Durable.{Durable};
 ghost use Rattle.paxos_base.specs.declared.rows.JobRow.{JobRow};
 ghost use Rattle.paxos_letter.specs.Letters.{Spells, letter_fault_of, sender_of};
@@ -11,7 +12,7 @@ ghost use Rattle.cluster_sched.specs.declared.fault.CallFault.{CallFault};
 ghost use Rattle.cluster_sched.specs.declared.row.Name.{Name};
 ghost use Rattle.cluster_sched.specs.declared.row.SchedRow.{SchedRow};
 ghost use Rattle.due_set.specs.Table.{IsSound, Table};
-ghost use Rattle.launch_machine.specs.Clerk.{first_rows};
+ghost use Rattle.launch_machine.specs.Clerk.{first_rows, table_size};
 ghost use Rattle.step_spec.specs.Act.{Act};
 ghost use Rattle.step_spec.specs.Folds.{after_acts, calls_of, deltas_of, learnt_of, letters_of};
 ghost use Rattle.step_spec.specs.Heard.{heard_as, packets_of};
@@ -75,9 +76,9 @@ pub fn a_posted_letter_is_a_letter_of_its_poster()
         → Contains (standing_after members (first_rows table) book).posted letter → letter.from < members }
     ensures to { (members : ℕ) (table : Table) (book : List Row) (letter : PostedLetter) → IsLegal members table book
         → Contains (standing_after members (first_rows table) book).posted letter → letter.to < members }
-    ensures heard { (members jobs : ℕ) (table : Table) (book : List Row) (letter : PostedLetter) → IsLegal members table book
+    ensures heard { (members : ℕ) (size : TableSize) (table : Table) (book : List Row) (letter : PostedLetter) → IsLegal members table book
         → Contains (standing_after members (first_rows table) book).posted letter
-        → (messages : List Message) × IsHeardAs members jobs letter.bytes letter.from messages }
+        → (messages : List Message) × IsHeardAs members size letter.bytes letter.from messages }
 {}
 
 /// The votes of some acts are those of the changes of what is kept: who has the changes of a step has its votes.
@@ -141,11 +142,11 @@ pub fn a_step_keeps_the_launch_table()
 pub fn posted_letters_are_heard_whole()
     ensures within { (members : ℕ) (table : Table) (book : List Row) (letter : PostedLetter) (packets : List Packet) → members ≤ 7 → IsSound table
         → IsLegal members table book → length book < 2 ^ 59 → Contains (standing_after members (first_rows table) book).posted letter
-        → Spells members letter.from packets letter.bytes → are_small (length table.jobs) packets ≡ true }
+        → Spells members letter.from packets letter.bytes → are_small (table_size table) packets ≡ true }
     ensures whole { (members : ℕ) (table : Table) (book : List Row) (letter : PostedLetter) → members ≤ 7 → IsSound table → IsLegal members table book
         → length book < 2 ^ 59 → Contains (standing_after members (first_rows table) book).posted letter → length letter.bytes < 56 * 2 ^ 31
         → (sent : List Message) × Spells members letter.from (flat_map packets_of sent) letter.bytes
-        × IsHeardAs members (length table.jobs) letter.bytes letter.from (flat_map heard_as sent) }
+        × IsHeardAs members (table_size table) letter.bytes letter.from (flat_map heard_as sent) }
 {}
 
 /// A step that a replica takes in a legal book, by what a program has of it, is a turn of the book: with letters that are spelled for

@@ -8,8 +8,8 @@ use Rattle.paxos_base.specs.declared.entry.Kind.{Kind}
 use Rattle.paxos_base.specs.declared.entry.Kind.TheVariants.{Launch, Void}
 use Rattle.paxos_base.specs.declared.rows.JobRow.{JobRow}
 use Rattle.due_set.specs.Table.{Table}
-use Rattle.paxos_base.specs.Rows.{fresh_row}
-use Rattle.launch_machine.specs.Clerk.{Applies, AppliesAll, IsClerkOf, TakesStart, TakesEnd, first_rows, opened_row, closed_row, with_row}
+use Rattle.paxos_base.specs.Rows.{fresh_row, row_count}
+use Rattle.launch_machine.specs.Clerk.{Applies, AppliesAll, IsClerkOf, TakesStart, TakesEnd, first_rows, opened_row, closed_row, with_row, table_size}
 use Rattle.launch_machine.specs.Starts.{EndsFrom, EndsOf, EndsJob}
 use Rattle.launch_machine.proofs.ClerkLemmas.{Applies-same}
 use Rattle.launch_machine.proofs.ExistLemmas.{same_kind_or_not}
@@ -115,7 +115,7 @@ ends_counted : (table : Table) (entries : List Entry) (rows : List JobRow) (job 
     → EndsOf table entries job kind count → slice_get rows job ≡ Some row → counted kind row ≡ count
 ends_counted table entries rows job kind count row clerk ends is_row =
     let total : counted kind row ≡ 0 + count =
-    ends_from table (first_rows table) entries job kind 0 count rows (fresh_count kind 0 (length table.jobs) job) ends clerk row is_row in
+    ends_from table (first_rows table) entries job kind 0 count rows (fresh_count kind 0 (row_count (table_size table)) job) ends clerk row is_row in
     omega (arith, total)
 
 pub launches_counted : (table : Table) (entries : List Entry) (rows : List JobRow) (job count : ℕ) (row : JobRow) → IsClerkOf table entries rows

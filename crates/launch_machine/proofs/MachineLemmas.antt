@@ -1,13 +1,14 @@
 -- A machine's rows and what stands beside them, and what a change of one place leaves.
 use Rattle.std.proofs.Common.{◌≡◌, ◌≢◌, ℕ, zero, suc, ◌+◌, ◌<◌, ◌≤◌, inl, inr, ◌↔◌, List, [], ◌∷◌, ◌++◌, length, get_or, Option, None, Some, ℤ, ◌≤ℤ◌, Bool, IsTrue, true, false, refl, sym, ap, ◌∙◌, subst, arith, length-append}
-use Rattle.std.specs.Prelude.{map, IfNone, IfOk, IfSome, IsSome, Result, Ok, Err, slice_get, slice_set}
+use Rattle.std.specs.Prelude.{map, not, is_some, IfNone, IfOk, IfSome, IsSome, Result, Ok, Err, slice_get, slice_set}
 use Rattle.std.proofs.Math.ListN.{length-set}
-use Rattle.std.proofs.lemmas.Bool.{cases_eq}
+use Rattle.std.proofs.lemmas.Bool.{and_parts, cases_eq, false≢true}
 use Rattle.std.proofs.lemmas.Int.{ints}
 use Rattle.std.proofs.lemmas.Option.{slice_get_within, get_or_from_slice_get, slice_get-get_or}
 use Rattle.std.specs.List.{range_with_len}
 use Rattle.std.proofs.lemmas.List.Elements.{All-map}
-use Rattle.paxos_base.specs.Rows.{RowsStand, OpenHasCursor, OpenHaveCursors}
+use Rattle.paxos_base.specs.Rows.{AreNumbered, RowsStand, OpenHasCursor, OpenHaveCursors, fresh_rows, row_count}
+use Rattle.paxos_base.specs.declared.rows.TableSize.{TableSize}
 use Rattle.paxos_base.specs.declared.rows.JobRow.{JobRow}
 use Rattle.paxos_base.specs.declared.entry.Kind.{Kind}
 use Rattle.paxos_base.specs.declared.entry.Kind.TheVariants.{Launch, Void}
@@ -22,9 +23,9 @@ use Rattle.due_set.proofs.TableLemmas.{IsRunByPeriod-kind}
 use Rattle.paxos_base.specs.declared.entry.Entry.TheVariants.{Start}
 use Rattle.paxos_base.specs.Rows.{fresh_row}
 use Rattle.paxos_base.proofs.RowLemmas.{RowsStand-fresh_rows}
-use Rattle.launch_machine.specs.Clerk.{Applies, MayStart, TakesStart, opened_row, closed_row}
+use Rattle.launch_machine.specs.Clerk.{Applies, MayStart, TakesStart, TakesEnd, opened_row, closed_row, table_size}
 use Rattle.launch_machine.specs.Intent.{MayCall, NoCall, NoStart}
-use Rattle.launch_machine.specs.Machine.{AreBeside, IsFirstStartOf, IsFirstToStart}
+use Rattle.launch_machine.specs.Machine.{AreBeside, IsCallBeside, IsFirstStartOf, IsFirstToStart, IsStartBeside}
 
 -- what is at the place that was set
 pub set_here : {X : Type 0} (xs : List X) (i : ℕ) (x y : X) → slice_get (slice_set xs i y) i ≡ Some x → y ≡ x
@@ -89,6 +90,14 @@ beside_push holds rows values job row value known is_row is = record {
 pub beside_all : (holds : ℕ → JobRow → Option ℤ → Type 0) (rows : List JobRow) (values : List (Option ℤ)) (count : ℕ) → AreBesideBelow holds rows values count
     → length rows ≡ count → AreBeside holds rows values
 beside_all holds rows values count known e = record { count = known.count ∙ sym e; each = known.each }
+
+-- what stands beside the jobs' rows, and nothing beside the table's own
+pub beside_table : (holds : ℕ → JobRow → Option ℤ → Type 0) (rows : List JobRow) (values : List (Option ℤ)) (jobs : ℕ) → AreBesideBelow holds rows values jobs
+    → length rows ≡ jobs + 1 → ((row : JobRow) → holds jobs row None) → AreBeside holds rows (values ++ None ∷ [])
+beside_table holds rows values jobs known count none =
+    let row : JobRow = get_or rows jobs (fresh_row 0) in
+    let here : slice_get rows jobs ≡ Some row = slice_get-get_or rows jobs (fresh_row 0) (omega (arith, count)) in
+    beside_all holds rows (values ++ None ∷ []) (jobs + 1) (beside_push holds rows values jobs row None known here (none row)) count
 
 -- the tree that is built is the list of the values
 pub beside_built : {E : Type 0} (holds : ℕ → JobRow → Option ℤ → Type 0) (rows : List JobRow) (values : List (Option ℤ)) (result : Result (List (Option ℤ)) E)
@@ -216,9 +225,42 @@ TakesStart-same table rows job a b now p q =
     let row : q.row ≡ p.row = same_row rows job q.row p.row q.is_row p.is_row in
     MayStart-same table job p.row a b now p.may (subst (λ (r : JobRow). MayStart table job r b now) row q.may)
 
+-- a job that may be started is in the table
+pub start_within : (table : Table) (job : ℕ) (row : JobRow) (at now : ℤ) → MayStart table job row at now → job < length table.jobs
+start_within table job row at now (inl (next, come)) = slice_get_within table.jobs job next.due.job next.due.is_in.is_job
+start_within table job row at now (inr opens) = slice_get_within table.jobs job opens.job opens.is_in.is_job
+
+-- no launch is the table's own
+pub table_starts : (table : Table) (row : JobRow) → IsStartBeside table (length table.jobs) row None
+table_starts table row = record {
+  opened = λ since is. refl;
+  idle = λ is at now may. let below = start_within table (length table.jobs) row at now may in absurd (omega (arith, below));
+}
+
+pub table_calls : (table : Table) (row : JobRow) → IsCallBeside table (length table.jobs) row None
+table_calls table row at now since spec zone inside is_open cursor is_in come =
+    let below = slice_get_within table.jobs (length table.jobs) spec is_in.is_job in absurd (omega (arith, below))
+
+-- the table's own row is closed
+pub ends_idle : (rows : List JobRow) (size : TableSize) (row : JobRow) → RowsStand rows size → slice_get rows size.jobs ≡ Some row → row.open_now ≡ None
+ends_idle rows size row stand is = idle row.open_now (and_parts _ _ (stand.ends row is)).0
+  where
+    idle : (open_now : Option ℤ) → not (is_some open_now) ≡ true → open_now ≡ None
+    idle None is = refl
+    idle (Some since) is = absurd (false≢true is)
+
+-- an open row is that of a job
+pub open_within : (table : Table) (rows : List JobRow) (job : ℕ) (at : ℤ) → RowsStand rows (table_size table) → TakesEnd rows job at → job < length table.jobs
+open_within table rows job at stand takes = elim (cases_eq job (length table.jobs)) [
+  | inl is ↦
+      let idle = ends_idle rows (table_size table) takes.row stand (subst (λ (k : ℕ). slice_get rows k ≡ Some takes.row) is takes.is_row) in
+      absurd (cc (takes.is_open, idle))
+  | inr other ↦ let below = slice_get_within rows job takes.row takes.is_row in omega (arith, below, stand.numbered.count, other)
+]
+
 -- a row of the job that is put in its place
-pub row_put : (rows : List JobRow) (jobs job : ℕ) (new : JobRow) → RowsStand rows jobs → new.job ≡ job → RowsStand (slice_set rows job new) jobs
-row_put rows jobs job new stand number = record {
+pub row_put : (rows : List JobRow) (count job : ℕ) (new : JobRow) → AreNumbered rows count → new.job ≡ job → AreNumbered (slice_set rows job new) count
+row_put rows count job new stand number = record {
   count = length-set rows job new ∙ stand.count;
   in_order = λ k row e. elim (cases_eq k job) [
     | inl k_is ↦
@@ -228,10 +270,18 @@ row_put rows jobs job new stand number = record {
   ];
 }
 
+-- a row of a job that is put in its place leaves the rows those of the table
+pub rows_put : (table : Table) (rows : List JobRow) (job : ℕ) (new : JobRow) → RowsStand rows (table_size table) → job < length table.jobs → new.job ≡ job
+    → RowsStand (slice_set rows job new) (table_size table)
+rows_put table rows job new stand below number = record {
+  numbered = row_put rows (row_count (table_size table)) job new stand.numbered number;
+  ends = λ row is. stand.ends row (sym (set_there rows job (length table.jobs) new (λ same. omega (arith, same, below))) ∙ is);
+}
+
 -- a row that a start opens has its job's number
-pub row_opened : (rows : List JobRow) (jobs job : ℕ) (at now : ℤ) (row here d new : JobRow) → RowsStand rows jobs → slice_get rows job ≡ Some row → here ≡ get_or rows job d
+pub row_opened : (rows : List JobRow) (count job : ℕ) (at now : ℤ) (row here d new : JobRow) → AreNumbered rows count → slice_get rows job ≡ Some row → here ≡ get_or rows job d
     → new ≡ opened_row at now here → new.job ≡ job
-row_opened rows jobs job at now row here d new stand is_row here_is new_is =
+row_opened rows count job at now row here d new stand is_row here_is new_is =
     let same : here ≡ row = here_is ∙ get_or_from_slice_get rows job row d is_row in
     ap (λ (r : JobRow). r.job) new_is ∙ ap (λ (r : JobRow). r.job) same ∙ stand.in_order job row is_row
 
@@ -280,13 +330,13 @@ below_next P n below here k t lt p =
     ]
 
 -- a job outside the table has no launch
-pub no_call_from : (table : Table) (rows : List JobRow) (now : ℤ) (count : ℕ) → length rows ≤ count
+pub no_call_from : (table : Table) (rows : List JobRow) (now : ℤ) (count : ℕ) → length table.jobs ≤ count
     → ((before : ℕ) (other : ℤ) → before < count → MayCall table rows before other now → ⊥) → NoCall table rows now
-no_call_from table rows now count le none job at may = none job at (omega (arith, slice_get_within rows job may.row may.is_row)) may
+no_call_from table rows now count le none job at may = none job at (omega (arith, slice_get_within table.jobs job may.spec may.is_in.is_job)) may
 
-pub no_start_from : (table : Table) (rows : List JobRow) (now : ℤ) (count : ℕ) → length rows ≤ count
+pub no_start_from : (table : Table) (rows : List JobRow) (now : ℤ) (count : ℕ) → length table.jobs ≤ count
     → ((before : ℕ) (other : ℤ) → before < count → TakesStart table rows before other now → ⊥) → NoStart table rows now
-no_start_from table rows now count le none job at takes = none job at (omega (arith, slice_get_within rows job takes.row takes.is_row)) takes
+no_start_from table rows now count le none job at takes = none job at (omega (arith, start_within table job takes.row at now takes.may)) takes
 
 pub closed_job : (at : ℤ) (kind : Kind) (row : JobRow) → (closed_row at kind row).job ≡ row.job
 closed_job at Launch row = refl
@@ -312,8 +362,8 @@ open_closed at kind row new new_is some =
     let none : IsSome {T = ℤ} None = subst IsSome idle some in
     cc
 
-pub fresh_stand : (rows : List JobRow) (n : ℕ) → rows ≡ map fresh_row (range_with_len 0 n) → RowsStand rows n
-fresh_stand rows n rows_are = subst (λ (r : List JobRow). RowsStand r n) (sym rows_are) (RowsStand-fresh_rows n)
+pub fresh_stand : (rows : List JobRow) (size : TableSize) → rows ≡ fresh_rows (row_count size) → RowsStand rows size
+fresh_stand rows size rows_are = subst (λ (r : List JobRow). RowsStand r size) (sym rows_are) (RowsStand-fresh_rows size)
 
 pub fresh_open : (rows : List JobRow) (n : ℕ) → rows ≡ map fresh_row (range_with_len 0 n) → OpenHaveCursors rows
 fresh_open rows n rows_are =

@@ -7,7 +7,8 @@ use Rattle.std.proofs.lemmas.Option.{slice_get_within}
 use Rattle.paxos_base.specs.declared.rows.JobRow.{JobRow}
 use Rattle.due_set.specs.Table.{Table}
 use Rattle.min_tree.specs.Least.{HasNone, HasNoneAtMost, IsAtMost, IsFirstAtMost, IsLeast}
-use Rattle.launch_machine.specs.Clerk.{TakesStart}
+use Rattle.paxos_base.specs.Rows.{row_count}
+use Rattle.launch_machine.specs.Clerk.{TakesStart, table_size}
 use Rattle.launch_machine.specs.Intent.{MayCall}
 use Rattle.launch_machine.specs.Machine.{AreCalls, AreNextStarts, IsCallBeside, IsFirstStartOf, IsFirstToStart, IsStartBeside}
 use Rattle.launch_machine.specs.Next.{IsNextStart, StartsNoMore}
@@ -139,9 +140,9 @@ no_call_after table rows calls now from known inside none rest job at may =
       | inr is ↦ none job at is.1 may
     ]
 
--- a place that was found is that of a job
+-- a place that was found is that of a row
 pub place_within : (values : List (Option ℤ)) (rows : List JobRow) (table : Table) (from : ℕ) (limit : ℤ) (place : ℕ) → IsFirstAtMost values from limit place
-    → length values ≡ length rows → length rows ≡ length table.jobs → place < length table.jobs
+    → length values ≡ length rows → length rows ≡ row_count (table_size table) → place < row_count (table_size table)
 place_within values rows table from limit place found values_are rows_are =
     let below = slice_get_within values place found.value found.here in
     omega arith

@@ -12,8 +12,8 @@ use Rattle.due_set.specs.Due.{IsRising}
 use Rattle.due_set.specs.Table.{Table, IsAfter, IsAnacron, IsDueFront, IsJobDue, IsJobDueList, IsNextDue, IsRunByPeriod}
 use Rattle.due_set.proofs.FrontLemmas.{front_prefix}
 use Rattle.due_set.proofs.Rising.{Contains-head, Contains-tail, Contains-cases, Contains-none}
-use Rattle.paxos_base.specs.Rows.{fresh_row}
-use Rattle.launch_machine.specs.Clerk.{Applies, MayStart, TakesStart, TakesEnd, first_rows, opened_row, closed_row, with_row}
+use Rattle.paxos_base.specs.Rows.{fresh_row, row_count}
+use Rattle.launch_machine.specs.Clerk.{Applies, MayStart, TakesStart, TakesEnd, first_rows, opened_row, closed_row, with_row, table_size}
 use Rattle.launch_machine.specs.Starts.{StartsFrom, StartsOf, StartsJob}
 use Rattle.launch_machine.proofs.MachineLemmas.{set_here, set_there, closed_cursor}
 use Rattle.std.proofs.lemmas.Bool.{cases_eq}
@@ -197,7 +197,7 @@ fresh_cursor a (suc n) (suc k) row e = fresh_cursor (a + 1) n k row e
 -- the starts of a job are a chain from the first on
 all_starts : (table : Table) (entries : List Entry) (job : ℕ) (instants : List ℤ) → StartsOf table entries job instants → IsStartChain table job None instants
 all_starts table entries job instants starts =
-    starts_chain table (first_rows table) entries job None instants (fresh_cursor 0 (length table.jobs) job) starts
+    starts_chain table (first_rows table) entries job None instants (fresh_cursor 0 (row_count (table_size table)) job) starts
 
 pub starts_rise : (table : Table) (entries : List Entry) (job : ℕ) (instants : List ℤ) → StartsOf table entries job instants → IsRising instants
 starts_rise table entries job instants starts = (chain_rises table job None instants (all_starts table entries job instants starts)).rising

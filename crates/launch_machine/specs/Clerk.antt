@@ -5,13 +5,18 @@ use Rattle.paxos_base.specs.declared.entry.Entry.TheVariants.{Noop, Start, End}
 use Rattle.paxos_base.specs.declared.entry.Kind.{Kind}
 use Rattle.paxos_base.specs.declared.entry.Kind.TheVariants.{Launch, Void}
 use Rattle.paxos_base.specs.declared.rows.JobRow.{JobRow}
-use Rattle.paxos_base.specs.Rows.{fresh_row, fresh_rows}
+use Rattle.paxos_base.specs.declared.rows.TableSize.{TableSize}
+use Rattle.paxos_base.specs.Rows.{fresh_row, fresh_rows, row_count}
 use Rattle.due_set.specs.Anacron.{IsJobOpen}
 use Rattle.due_set.specs.Table.{Table, IsNextDue}
 
--- the launch table at first: a fresh row for each job
+-- how many jobs the table has, of which there is one version
+abbrev pub table_size : Table → TableSize
+table_size table = record { jobs = length table.jobs; last_version = 0 }
+
+-- the launch table at first: a fresh row for each job, and the table's own
 abbrev pub first_rows : Table → List JobRow
-first_rows table = fresh_rows (length table.jobs)
+first_rows table = fresh_rows (row_count (table_size table))
 
 -- the launch is the job's next due instant, and has come; of a job that runs by its period, it is a date on which it may open now
 abbrev pub MayStart : Table → ℕ → JobRow → ℤ → ℤ → Type 0

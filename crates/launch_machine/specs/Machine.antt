@@ -9,7 +9,7 @@ use Rattle.paxos_base.specs.declared.rows.JobRow.{JobRow}
 use Rattle.due_set.specs.Calls.{HasCome}
 use Rattle.due_set.specs.Table.{Job, Table, IsJobIn}
 use Rattle.min_tree.specs.Least.{IsAtMost}
-use Rattle.launch_machine.specs.Clerk.{MayStart}
+use Rattle.launch_machine.specs.Clerk.{MayStart, table_size}
 
 -- the rows of the launch table; beside each the first instant at which its job may be started, and one before which its launch
 -- isn't called
@@ -55,7 +55,7 @@ AreCalls table rows calls = AreBeside (IsCallBeside table) rows calls
 
 -- the machine is one of this table
 pub record StandsFor (table : Table) (machine : Launches) : Type 0 where
-  pub rows : RowsStand machine.rows (length table.jobs)
+  pub rows : RowsStand machine.rows (table_size table)
   pub starts : AreNextStarts table machine.rows machine.starts
   pub calls : AreCalls table machine.rows machine.calls
 

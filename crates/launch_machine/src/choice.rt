@@ -1,6 +1,8 @@
 //! What a leader does next.
 ghost use Rattle.std.specs.Prelude.{◌≡◌, ◌<◌, ℤ, length, IfSome, IfNone};
 ghost use Rattle.zone_minutes.specs.Window.{IsInWindow};
+ghost use Rattle.paxos_base.specs.Rows.{row_count};
+ghost use Rattle.launch_machine.specs.Clerk.{table_size};
 ghost use Rattle.launch_machine.specs.Answers.{IsCallKind};
 ghost use Rattle.launch_machine.specs.Intent.{MayCall, NoCall, NoStart, IsFirstCall, IsFirstStart};
 ghost use Rattle.launch_machine.specs.Machine.{AreCalls, AreNextStarts};
@@ -13,7 +15,7 @@ use zone_minutes::Minute;
 
 // The job's launch, if it is open and may be called.
 fn call_at(rows: &[JobRow], table: &JobTable, job: u32, now: Minute) -> Option<i64>
-    requires count { length rows.now ≡ length table.now.jobs }
+    requires count { length rows.now ≡ row_count (table_size table.now) }
     requires job { job < length table.now.jobs }
     requires inside { IsInWindow table.now.window now.0 }
     ensures found { IfSome result (λ at. MayCall table.now rows.now job at now.0) }
@@ -36,7 +38,7 @@ pub fn first_call(
     table: &JobTable,
     now: Minute,
 ) -> Option<(u32, i64)>
-    requires count { length rows.now ≡ length table.now.jobs }
+    requires count { length rows.now ≡ row_count (table_size table.now) }
     requires calls { AreCalls table.now rows.now calls.now }
     requires inside { IsInWindow table.now.window now.0 }
     ensures found { IfSome result (λ first. IsFirstCall table.now rows.now now.0 first.0 first.1) }
@@ -46,6 +48,9 @@ pub fn first_call(
     let mut from = 0;
     'open: while from < jobs {
         let place = calls.first_at_most(from, now.0)?;
+        if place >= jobs {
+            return None;
+        }
         let job = place as u32;
         if let Some(at) = call_at(rows, table, job, now) {
             return Some((job, at));
@@ -62,7 +67,7 @@ pub fn first_start(
     table: &JobTable,
     now: Minute,
 ) -> Option<(u32, i64)>
-    requires count { length rows.now ≡ length table.now.jobs }
+    requires count { length rows.now ≡ row_count (table_size table.now) }
     requires starts { AreNextStarts table.now rows.now starts.now }
     ensures found { IfSome result (λ first. IsFirstStart table.now rows.now now.0 first.0 first.1) }
     ensures none { IfNone result (NoStart table.now rows.now now.0) }

@@ -22,3 +22,4 @@ pub use laws::{
     starts_come_in_order,
 };
 pub use machine::{Effect, Intent, Machine};
+pub use row::table_size;

@@ -3,13 +3,14 @@ ghost use Rattle.zone_minutes.specs.Window.{IsInWindow};
 ghost use Rattle.paxos_base.specs.Rows.{RowsStand, OpenHasCursor};
 ghost use Rattle.due_set.specs.Table.{Table, IsSound};
 ghost use Rattle.launch_machine.specs.Answers.{IsEffect, IsIntent};
-ghost use Rattle.launch_machine.specs.Clerk.{Applies, first_rows};
+ghost use Rattle.launch_machine.specs.Clerk.{Applies, first_rows, table_size};
 ghost use Rattle.launch_machine.specs.Machine.{CanCount, CanRise, StandsFor};
 ghost use Rattle.launch_machine.specs.Next.{IsNextStart, StartsNoMore};
 
 use crate::choice::{call_kind, first_call, first_start};
 use crate::next::{call_beside, calls_of, start_beside, starts_of, takes_start};
 use crate::row;
+use crate::row::table_size;
 use cron_io::OutOfMemory;
 use due_set::JobTable;
 use min_tree::LeastTree;
@@ -69,7 +70,7 @@ impl Machine {
         ensures stands { IfOk result (λ machine. StandsFor table.now machine) }
         ensures sound { IsSound table.now }
     {
-        let rows = row::first_rows(alloc, table.jobs())?;
+        let rows = row::first_rows(alloc, table_size(table))?;
         let starts = starts_of(alloc, table, &rows)?;
         let calls = calls_of(alloc, table, &rows)?;
         Ok(Machine {
@@ -79,7 +80,8 @@ impl Machine {
         })
     }
 
-    /// The machine of a launch table, or `None` where the rows are not one for each job, in the order of the jobs.
+    /// The machine of a launch table, or `None` where the rows are not one for each job, in the
+    /// order of the jobs, with the table's own behind them.
     pub fn from_rows(
         alloc: Global,
         table: &JobTable,
@@ -87,7 +89,7 @@ impl Machine {
     ) -> Result<Option<Machine>, OutOfMemory>
         ensures rows { IfOk result (λ found. IfSome found (λ machine. machine.rows ≡ rows)) }
         ensures stands { IfOk result (λ found. IfSome found (λ machine. StandsFor table.now machine)) }
-        ensures none { IfOk result (λ found. IfNone found (RowsStand rows (length table.now.jobs) → ⊥)) }
+        ensures none { IfOk result (λ found. IfNone found (RowsStand rows (table_size table.now) → ⊥)) }
     {
         if !rows_stand(&rows, table.jobs(), table.versions()) {
             return Ok(None);

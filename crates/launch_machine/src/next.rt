@@ -2,7 +2,8 @@
 ghost use Rattle.std.specs.Prelude.{◌≡◌, ◌↔◌, ◌<◌, ℤ, ◌≤ℤ◌, Some, length, IfOk, IfSome, IfNone, IsTrue};
 ghost use Rattle.due_set.specs.Anacron.{IsFirstOpening, IsJobOpen};
 ghost use Rattle.due_set.specs.Table.{IsAfter, IsJobDue, IsNextDue};
-ghost use Rattle.launch_machine.specs.Clerk.{MayStart, TakesStart};
+ghost use Rattle.launch_machine.specs.Clerk.{MayStart, TakesStart, table_size};
+ghost use Rattle.paxos_base.specs.Rows.{row_count};
 ghost use Rattle.launch_machine.specs.Machine.{AreCalls, AreNextStarts, IsStartBeside, IsCallBeside, IsFirstStartOf, IsFirstToStart};
 
 use cron_io::OutOfMemory;
@@ -76,25 +77,29 @@ pub fn call_beside(table: &JobTable, job: u32, row: JobRow) -> Option<i64>
 
 /// What stands beside each row of the starts.
 pub fn starts_of(alloc: Global, table: &JobTable, rows: &[JobRow]) -> Result<LeastTree, OutOfMemory>
-    requires { length rows.now ≡ length table.now.jobs }
+    requires { length rows.now ≡ row_count (table_size table.now) }
     ensures { IfOk result (λ starts. AreNextStarts table.now rows.now starts) }
 {
     let mut starts = Vec::new(alloc);
     for job in 0..table.jobs() {
         starts.push(start_beside(table, job, rows[job as usize]))?;
     }
+    // No launch is the table's own.
+    starts.push(None)?;
     LeastTree::build(alloc, &starts)
 }
 
 /// What stands beside each row of the calls.
 pub fn calls_of(alloc: Global, table: &JobTable, rows: &[JobRow]) -> Result<LeastTree, OutOfMemory>
-    requires { length rows.now ≡ length table.now.jobs }
+    requires { length rows.now ≡ row_count (table_size table.now) }
     ensures { IfOk result (λ calls. AreCalls table.now rows.now calls) }
 {
     let mut calls = Vec::new(alloc);
     for job in 0..table.jobs() {
         calls.push(call_beside(table, job, rows[job as usize]))?;
     }
+    // No launch is the table's own.
+    calls.push(None)?;
     LeastTree::build(alloc, &calls)
 }
 
@@ -106,7 +111,7 @@ pub fn start_at(
     job: u32,
     now: i64,
 ) -> Option<i64>
-    requires count { length rows.now ≡ length table.now.jobs }
+    requires count { length rows.now ≡ row_count (table_size table.now) }
     requires starts { AreNextStarts table.now rows.now starts.now }
     ensures found { IfSome result (λ at. TakesStart table.now rows.now job at now) }
     ensures none { IfNone result ((at : ℤ) → TakesStart table.now rows.now job at now → ⊥) }
@@ -130,7 +135,7 @@ pub fn takes_start(
     at: i64,
     now: i64,
 ) -> bool
-    requires count { length rows.now ≡ length table.now.jobs }
+    requires count { length rows.now ≡ row_count (table_size table.now) }
     requires starts { AreNextStarts table.now rows.now starts.now }
     ensures { IsTrue result ↔ TakesStart table.now rows.now job at now }
 {

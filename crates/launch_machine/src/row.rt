@@ -1,17 +1,30 @@
 //! Changes of the rows.
 ghost use Rattle.std.specs.Prelude.{◌≡◌, ◌↔◌, ◌+◌, ◌<◌, ◌^◌, IfOk, IsTrue};
-ghost use Rattle.paxos_base.specs.Rows.{fresh_rows};
-ghost use Rattle.launch_machine.specs.Clerk.{TakesEnd, opened_row, closed_row};
+ghost use Rattle.paxos_base.specs.Rows.{fresh_rows, row_count};
+ghost use Rattle.due_set.specs.Table.{IsSound};
+ghost use Rattle.launch_machine.specs.Clerk.{TakesEnd, opened_row, closed_row, table_size};
 
 use cron_io::OutOfMemory;
-use paxos_base::{JobRow, Kind, RowList};
+use due_set::JobTable;
+use paxos_base::{JobRow, Kind, RowList, TableSize};
 use std::alloc::Global;
 
-/// A fresh row for each job.
-pub fn first_rows(alloc: Global, jobs: u32) -> Result<Vec<JobRow>, OutOfMemory>
-    ensures { IfOk result (λ rows. rows.items ≡ fresh_rows jobs) }
+/// How many jobs a table has, and its last version.
+pub fn table_size(table: &JobTable) -> TableSize
+    ensures size { result ≡ table_size table.now }
+    ensures sound { IsSound table.now }
 {
-    Ok(RowList::fresh(alloc, jobs)?.items)
+    TableSize {
+        jobs: table.jobs(),
+        last_version: table.versions() - 1,
+    }
+}
+
+/// The fresh rows of a table of this size.
+pub fn first_rows(alloc: Global, size: TableSize) -> Result<Vec<JobRow>, OutOfMemory>
+    ensures { IfOk result (λ rows. rows.items ≡ fresh_rows (row_count size)) }
+{
+    Ok(RowList::fresh(alloc, size)?.items)
 }
 
 /// Whether the job is in the table and open at the instant.

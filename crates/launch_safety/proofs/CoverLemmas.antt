@@ -1,5 +1,5 @@
 -- Each due instant of a job up to its row's cursor was started, and has ended where the row isn't open at it.
-use Rattle.std.proofs.Common.{◌≡◌, ℕ, zero, suc, ◌+◌, inl, inr, List, [], ◌∷◌, ◌++◌, length, get_or, Option, None, Some, ℤ, ◌≤ℤ◌, ◌<ℤ◌, refl, sym, ap, ◌∙◌, subst, arith}
+use Rattle.std.proofs.Common.{◌≡◌, ℕ, zero, suc, ◌+◌, inl, inr, List, [], ◌∷◌, ◌++◌, get_or, Option, None, Some, ℤ, ◌≤ℤ◌, ◌<ℤ◌, refl, sym, ap, ◌∙◌, subst, arith}
 use Rattle.std.specs.Prelude.{map, slice_get}
 use Rattle.std.specs.List.{range_with_len}
 use Rattle.std.proofs.lemmas.Int.{ints, by_lt_z}
@@ -11,8 +11,8 @@ use Rattle.paxos_base.specs.declared.entry.Kind.TheVariants.{Launch, Void}
 use Rattle.paxos_base.specs.declared.rows.JobRow.{JobRow}
 use Rattle.due_set.specs.Anacron.{IsJobOpen}
 use Rattle.due_set.specs.Table.{Table, IsAfter, IsJobDue}
-use Rattle.paxos_base.specs.Rows.{fresh_row}
-use Rattle.launch_machine.specs.Clerk.{Applies, AppliesAll, IsClerkOf, MayStart, TakesStart, TakesEnd, first_rows, opened_row, closed_row, with_row}
+use Rattle.paxos_base.specs.Rows.{fresh_row, row_count}
+use Rattle.launch_machine.specs.Clerk.{Applies, AppliesAll, IsClerkOf, MayStart, TakesStart, TakesEnd, first_rows, opened_row, closed_row, with_row, table_size}
 use Rattle.launch_machine.proofs.ClerkLemmas.{IsClerkOf-push}
 use Rattle.launch_machine.proofs.MachineLemmas.{due_by_instant, opens_by_period, set_there}
 use Rattle.std.proofs.lemmas.Bool.{cases_eq}
@@ -165,4 +165,4 @@ cover_fresh table job a (suc n) (suc k) row e = cover_fresh table job (a + 1) n 
 -- the rows of a log are covered
 pub clerk_covers : (table : Table) (log : List Entry) (rows : List JobRow) (job : ℕ) → IsClerkOf table log rows → HasCover table log rows job
 clerk_covers table log rows job clerk =
-    cover_along table [] log (first_rows table) rows job refl clerk (cover_fresh table job 0 (length table.jobs) job)
+    cover_along table [] log (first_rows table) rows job refl clerk (cover_fresh table job 0 (row_count (table_size table)) job)

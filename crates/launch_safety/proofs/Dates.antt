@@ -21,6 +21,7 @@ use Rattle.paxos_base.specs.declared.entry.Entry.{Entry}
 use Rattle.paxos_base.specs.declared.entry.Entry.TheVariants as entry
 use Rattle.paxos_base.specs.declared.entry.Kind.TheVariants.{Launch}
 use Rattle.paxos_base.specs.declared.entry.Vote.{Vote}
+use Rattle.paxos_base.specs.Rows.{fresh_row}
 use Rattle.paxos_base.specs.declared.rows.JobRow.{JobRow}
 use Rattle.cluster_sched.specs.declared.fate.Fate.TheVariants.{Done}
 use Rattle.cluster_sched.specs.declared.row.SchedRow.{SchedRow}
@@ -35,7 +36,7 @@ use Rattle.history.proofs.Turns.{Book}
 use Rattle.launch_safety.specs.Parts.{HasTwoDates}
 use Rattle.launch_safety.proofs.Alone.{Stands, calls, end, leading, led, start, vote}
 use Rattle.launch_safety.proofs.Ended.{ends_alone}
-use Rattle.history.proofs.Asks.{utc}
+use Rattle.history.proofs.Asks.{utc, with_table}
 
 -- ---- the table: a job that runs each day, in UTC, over a window of two days
 
@@ -114,14 +115,15 @@ idle last count = record { job = 0; cursor = last; open_now = None; last = last;
 abbrev opened : Option ℤ → ℕ → ℤ → ℤ → JobRow
 opened last count now date = record (idle last count) { cursor = Some date; open_now = Some now }
 
-takes_start : (last : Option ℤ) (count : ℕ) (now date : ℤ) → IsOn now date → IsAfter last date → IsOverSince (Days 1) last date → TakesStart daily (idle last count ∷ []) 0 date now
+takes_start : (last : Option ℤ) (count : ℕ) (now date : ℤ) → IsOn now date → IsAfter last date → IsOverSince (Days 1) last date → TakesStart daily (with_table (idle last count)) 0 date now
 takes_start last count now date on later over = record { row = idle last count; is_row = refl; idle = refl; may = inr (opens last last now date on later over) }
 
-no_call : (last : Option ℤ) (count : ℕ) (now : ℤ) → NoCall daily (idle last count ∷ []) now
+no_call : (last : Option ℤ) (count : ℕ) (now : ℤ) → NoCall daily (with_table (idle last count)) now
 no_call last count now zero at may = let row : idle last count ≡ may.row = cc in let shut : None ≡ Some may.since = ap (λ r. r.open_now) row ∙ may.is_open in cc
-no_call last count now (suc job) at may = let none : None ≡ Some may.row = may.is_row in cc
+no_call last count now (suc zero) at may = let row : fresh_row 1 ≡ may.row = cc in let shut : None ≡ Some may.since = ap (λ r. r.open_now) row ∙ may.is_open in cc
+no_call last count now (suc (suc job)) at may = let none : None ≡ Some may.row = may.is_row in cc
 
-start_asked : (last : Option ℤ) (count : ℕ) (now date : ℤ) → IsOn now date → IsAfter last date → IsOverSince (Days 1) last date → IsIntent daily (idle last count ∷ []) now (intent.Start 0 date)
+start_asked : (last : Option ℤ) (count : ℕ) (now date : ℤ) → IsOn now date → IsAfter last date → IsOverSince (Days 1) last date → IsIntent daily (with_table (idle last count)) now (intent.Start 0 date)
 start_asked last count now date on later over =
     (no_call last count now, record { takes = takes_start last count now date on later over; first = λ before other less it. absurd (omega (arith, less)) })
 
@@ -130,7 +132,7 @@ call_kind now date on spec zone is_in =
     let one = only_one spec zone is_in in
     subst (λ (job : Job). (Launch ≡ Launch) ↔ IsOnTime job.kind zone 0 date now) one.0 ((λ it. shown_on now date zone on one.1), (λ it. refl))
 
-call_asked : (last : Option ℤ) (count : ℕ) (now date : ℤ) → IsOn now date → IsIntent daily (opened last count now date ∷ []) now (intent.Call 0 date Launch)
+call_asked : (last : Option ℤ) (count : ℕ) (now date : ℤ) → IsOn now date → IsIntent daily (with_table (opened last count now date)) now (intent.Call 0 date Launch)
 call_asked last count now date on = (
   record {
     may = record {
@@ -150,13 +152,13 @@ call_asked last count now date on = (
 )
 
 start_applies : (last : Option ℤ) (count : ℕ) (now date : ℤ) → IsOn now date → IsAfter last date → IsOverSince (Days 1) last date
-    → Applies daily (idle last count ∷ []) (entry.Start 0 date now) (opened last count now date ∷ [])
+    → Applies daily (with_table (idle last count)) (entry.Start 0 date now) (with_table (opened last count now date))
 start_applies last count now date on later over = inl (takes_start last count now date on later over, refl)
 
-end_applies : (last : Option ℤ) (count : ℕ) (now date : ℤ) → Applies daily (opened last count now date ∷ []) (entry.End 0 date Launch) (idle (Some date) (count + 1) ∷ [])
+end_applies : (last : Option ℤ) (count : ℕ) (now date : ℤ) → Applies daily (with_table (opened last count now date)) (entry.End 0 date Launch) (with_table (idle (Some date) (count + 1)))
 end_applies last count now date = inl (record { row = opened last count now date; is_row = refl; since = now; is_open = refl; cursor = refl }, refl)
 
-opened_there : (last : Option ℤ) (count : ℕ) (now date : ℤ) → is_open 0 date (opened last count now date ∷ []) ≡ true
+opened_there : (last : Option ℤ) (count : ℕ) (now date : ℤ) → is_open 0 date (with_table (opened last count now date)) ≡ true
 opened_there last count now date = (Decides-int_eq date date).1 refl
 
 abbrev launch : (now date : ℤ) → SchedRow
@@ -201,13 +203,13 @@ abbrev votes4 : List Vote
 votes4 = put_vote (vote 3 end2) votes3
 
 abbrev open1 : List JobRow
-open1 = opened None 0 now1 (pos 365) ∷ []
+open1 = with_table (opened None 0 now1 (pos 365))
 
 abbrev idle1 : List JobRow
-idle1 = idle (Some (pos 365)) 1 ∷ []
+idle1 = with_table (idle (Some (pos 365)) 1)
 
 abbrev open2 : List JobRow
-open2 = opened (Some (pos 365)) 1 now2 (pos 366) ∷ []
+open2 = with_table (opened (Some (pos 365)) 1 now2 (pos 366))
 
 applied1 : AppliesAll daily (first_rows daily) (start1 ∷ []) open1
 applied1 = (open1, start_applies None 0 now1 (pos 365) on1 tt tt, refl)
@@ -234,7 +236,7 @@ first_book : Book 1 daily (Stands (leading daily votes2 (start1 ∷ end1 ∷ [])
 first_book =
     end daily votes1 (start1 ∷ []) held1 [] [] (launch now1 (pos 365)) open1 applied1 (opened_there None 0 now1 (pos 365))
     (calls daily votes1 (start1 ∷ []) [] [] [] None open1 0 (pos 365) now1 Launch Done (Some (launch now1 (pos 365))) (lit< tt) on1.inside applied1 (call_asked None 0 now1 (pos 365) on1) refl
-    (start daily [] [] [] [] [] None (idle None 0 ∷ []) 0 (pos 365) now1 (lit< tt) on1.inside refl (start_asked None 0 now1 (pos 365) on1 tt tt) (led daily)))
+    (start daily [] [] [] [] [] None (with_table (idle None 0)) 0 (pos 365) now1 (lit< tt) on1.inside refl (start_asked None 0 now1 (pos 365) on1 tt tt) (led daily)))
 
 second_book : Book 1 daily (Stands (leading daily votes4 (start1 ∷ end1 ∷ start2 ∷ end2 ∷ [])) held2 [] [] None)
 second_book =

@@ -27,9 +27,9 @@ use Rattle.launch_safety.specs.Launched.{IsWanted, LaunchesEachDue, OpensBy}
 use Rattle.launch_safety.proofs.CoverLemmas.{HasStart-more, IsCovered, clerk_covers}
 
 pub name_is : (a b : Name) → a.job ≡ b.job → a.at ≡ b.at → a ≡ b
-name_is a b jobs instants =
+name_is a b size instants =
     let make : ℕ → ℤ → Name = λ j t. record { job = j; at = t } in
-    let both : make a.job a.at ≡ make b.job b.at = ap (λ (j : ℕ). make j a.at) jobs ∙ ap (make b.job) instants in
+    let both : make a.job a.at ≡ make b.job b.at = ap (λ (j : ℕ). make j a.at) size ∙ ap (make b.job) instants in
     both
 
 -- rows at two places have two names
@@ -42,8 +42,8 @@ apart held a b i j once lt in_i in_j at_i at_j same =
 -- two rows of one launch are one row
 pub row_once : (held : List SchedRow) (a b : SchedRow) → AreNamedOnce held → Contains held a → Contains held b → a.name.job ≡ b.name.job → a.name.at ≡ b.name.at
     → a ≡ b
-row_once held a b once (i, in_i, at_i) (j, in_j, at_j) jobs instants =
-    let same : a.name ≡ b.name = name_is a.name b.name jobs instants in
+row_once held a b once (i, in_i, at_i) (j, in_j, at_j) size instants =
+    let same : a.name ≡ b.name = name_is a.name b.name size instants in
     elim (cases_order i j) [
       | inl e ↦ sym at_i ∙ get_or_default held i a b in_i ∙ ap (λ (k : ℕ). get_or held k b) e ∙ at_j
       | inr (inl lt) ↦ absurd (apart held a b i j once lt in_i in_j at_i at_j same)
@@ -52,7 +52,7 @@ row_once held a b once (i, in_i, at_i) (j, in_j, at_j) jobs instants =
 
 pub held_once : (table : Table) (log : List Entry) (held : List SchedRow) (a b : SchedRow) → Fits table log held → Contains held a → Contains held b
     → a.name.job ≡ b.name.job → a.name.at ≡ b.name.at → a ≡ b
-held_once table log held a b fits in_a in_b jobs instants = row_once held a b fits.once in_a in_b jobs instants
+held_once table log held a b fits in_a in_b size instants = row_once held a b fits.once in_a in_b size instants
 
 -- an end says what is held
 pub end_held : (table : Table) (log : List Entry) (held : List SchedRow) (job : ℕ) (at : ℤ) (kind : Kind) → Fits table log held → HasEnd table log job at kind
@@ -115,8 +115,8 @@ front_of_fits table log held job fits other =
 pub apart_of_fits : (table : Table) (log : List Entry) (held : List SchedRow) (a b : SchedRow) (job : Job) (period : Period) (first last : ℕ)
     → Fits table log held → Contains held a → Contains held b → a.name.job ≡ b.name.job → a.kind ≡ Launch → b.kind ≡ Launch → a.name.at <ℤ b.name.at
     → slice_get table.jobs a.name.job ≡ Some job → job.kind ≡ Anacron period first last → IsPeriodOver period a.name.at b.name.at
-apart_of_fits table log held a b job period first last fits in_a in_b jobs a_launch b_launch lt is_job kind =
-    fits.apart a b in_a in_b jobs a_launch b_launch lt job period first last is_job kind
+apart_of_fits table log held a b job period first last fits in_a in_b size a_launch b_launch lt is_job kind =
+    fits.apart a b in_a in_b size a_launch b_launch lt job period first last is_job kind
 
 -- where each due instant is launched, one row is held for each, a launch
 pub launched_each : (table : Table) (held : List SchedRow) (job : ℕ) (at : ℤ) → LaunchesEachDue table held → IsJobDue table job at

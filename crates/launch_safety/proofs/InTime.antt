@@ -19,7 +19,7 @@ use Rattle.history.specs.Book.{PostedLetter, Row, Standing, held_after}
 use Rattle.history.specs.Legal.{IsLegal}
 use Rattle.history.specs.declared.turn.CallRow.{CallRow}
 use Rattle.history.specs.declared.turn.Cause.TheVariants as causes
-use Rattle.history.proofs.Asks.{busy, call_asked, end_entry, idle, in_window, is_open_then, minute, minute_fits, opened, sound, start_applies, start_asked, start_entry}
+use Rattle.history.proofs.Asks.{busy, call_asked, end_entry, idle, in_window, is_open_then, minute, minute_fits, opened, sound, start_applies, start_asked, start_entry, with_table}
 use Rattle.history.proofs.Launches.{Settled, settled}
 use Rattle.history.proofs.Rounds.{IsKnown, IsProposed, call_acts, end_acts, following, leading, propose_turn, put_below, round, start_acts, told, vote}
 use Rattle.history.proofs.Turns.{Book, Next, Stands, first_turn, go_on}
@@ -64,18 +64,18 @@ module _ (k : ℕ) (within : k < 32) (there : Settled k) where
   long_then : 0 + length entries_then ≡ 2 * k + 1
   long_then = omega (arith, length_push there.entries (start_entry k), there.long)
 
-  table_then : AppliesAll busy (first_rows busy) entries_then (opened k ∷ [])
-  table_then = AppliesAll-push busy (first_rows busy) there.entries (start_entry k) (idle k ∷ []) (opened k ∷ []) there.table (start_applies k inside)
+  table_then : AppliesAll busy (first_rows busy) entries_then (with_table (opened k))
+  table_then = AppliesAll-push busy (first_rows busy) there.entries (start_entry k) (with_table (idle k)) (with_table (opened k)) there.table (start_applies k inside)
 
   start_turn : (standing : Standing) → Stands (leading 0 (first_rows busy) there.votes there.entries None) (following there.votes there.entries) there.posted there.held None standing
       → Next 2 busy standing (IsProposed (2 * k) (start_entry k) there.votes there.entries there.posted there.held)
   start_turn standing stands =
       propose_turn (causes.Tick (record { 0 = minute k })) (Tick (minute k) plan) 0 (2 * k) (start_entry k) (first_rows busy) there.votes there.entries _ there.posted there.held None standing
-      (start_acts 0 (2 * k) (first_rows busy) (idle k ∷ []) there.votes there.entries (minute k) (minute k) there.long (omega (arith, within)))
+      (start_acts 0 (2 * k) (first_rows busy) (with_table (idle k)) there.votes there.entries (minute k) (minute k) there.long (omega (arith, within)))
       (there.table, start_asked k inside) start_slot start_fits (in_window k inside, plan, refl) stands
     where
       plan : Plan
-      plan = record { rows = idle k ∷ []; intent = intent.Start 0 (minute k) }
+      plan = record { rows = with_table (idle k); intent = intent.Start 0 (minute k) }
 
   started_book : Book 2 busy (IsKnown (2 * k) (start_entry k) there.votes there.entries there.posted there.held)
   started_book =
@@ -88,18 +88,18 @@ module _ (k : ℕ) (within : k < 32) (there : Settled k) where
   call_turn standing stands =
       first_turn busy (leading 0 (first_rows busy) votes_then entries_then None) (following votes_then entries_then) (leading 0 (first_rows busy) votes_then entries_then None) posted_then there.held None standing
       (causes.Tick (record { 0 = minute k })) (Some made) (Tick (minute k) plan) (Call row ∷ []) []
-      (call_acts 0 (2 * k + 1) (first_rows busy) (opened k ∷ []) votes_then entries_then (minute k) (minute k) long_then (omega (arith, within))) refl (table_then, call_asked k) tt
+      (call_acts 0 (2 * k + 1) (first_rows busy) (with_table (opened k)) votes_then entries_then (minute k) (minute k) long_then (omega (arith, within))) refl (table_then, call_asked k) tt
       (refl, refl, rw (there.before k (omega arith)) refl) (in_window k inside, plan, refl) stands
     where
       plan : Plan
-      plan = record { rows = opened k ∷ []; intent = intent.Call 0 (minute k) Launch }
+      plan = record { rows = with_table (opened k); intent = intent.Call 0 (minute k) Launch }
 
   end_turn : (standing : Standing) → Stands (leading 0 (first_rows busy) votes_then entries_then None) (following votes_then entries_then) (posted_then ++ []) held_then (Some row) standing
       → Next 2 busy standing (IsProposed (2 * k + 1) (end_entry k) votes_then entries_then (posted_then ++ []) held_then)
   end_turn standing stands =
-      propose_turn causes.Answer (Answer 0 (minute k) Launch (opened k ∷ [])) 0 (2 * k + 1) (end_entry k) (first_rows busy) votes_then entries_then _ (posted_then ++ []) held_then (Some row) standing
-      (end_acts 0 (2 * k + 1) (first_rows busy) (opened k ∷ []) votes_then entries_then (minute k) long_then (is_open_then k))
-      table_then end_slot end_fits (record { row = row; waits = stands.waits_is; plan = record { rows = opened k ∷ []; intent = intent.Rest }; is = refl }) stands
+      propose_turn causes.Answer (Answer 0 (minute k) Launch (with_table (opened k))) 0 (2 * k + 1) (end_entry k) (first_rows busy) votes_then entries_then _ (posted_then ++ []) held_then (Some row) standing
+      (end_acts 0 (2 * k + 1) (first_rows busy) (with_table (opened k)) votes_then entries_then (minute k) long_then (is_open_then k))
+      table_then end_slot end_fits (record { row = row; waits = stands.waits_is; plan = record { rows = with_table (opened k); intent = intent.Rest }; is = refl }) stands
 
   ended_book : Book 2 busy (IsKnown (2 * k + 1) (end_entry k) votes_then entries_then (posted_then ++ []) held_then)
   ended_book =

@@ -1,5 +1,5 @@
 -- The launches of a job are a period apart: a row remembers the latest of those that ended.
-use Rattle.std.proofs.Common.{◌≡◌, ℕ, zero, suc, ◌+◌, inl, inr, List, [], ◌∷◌, ◌++◌, length, get_or, Option, None, Some, ℤ, ◌≤ℤ◌, ◌<ℤ◌, refl, sym, ap, ◌∙◌, subst, arith}
+use Rattle.std.proofs.Common.{◌≡◌, ℕ, zero, suc, ◌+◌, inl, inr, List, [], ◌∷◌, ◌++◌, get_or, Option, None, Some, ℤ, ◌≤ℤ◌, ◌<ℤ◌, refl, sym, ap, ◌∙◌, subst, arith}
 use Rattle.std.specs.Prelude.{All, map, slice_get}
 use Rattle.std.specs.List.{range_with_len}
 use Rattle.std.proofs.lemmas.Int.{ints, by_lt_z}
@@ -18,8 +18,8 @@ use Rattle.due_set.proofs.OpenLemmas.{IsPeriodOver-since}
 use Rattle.due_set.proofs.TableLemmas.{same_job}
 use Rattle.cluster_sched.specs.Held.{AreNamedOnce}
 use Rattle.cluster_sched.specs.declared.row.SchedRow.{SchedRow}
-use Rattle.paxos_base.specs.Rows.{fresh_row}
-use Rattle.launch_machine.specs.Clerk.{Applies, AppliesAll, IsClerkOf, TakesStart, TakesEnd, TakesEffect, first_rows, opened_row, closed_row, with_row}
+use Rattle.paxos_base.specs.Rows.{fresh_row, row_count}
+use Rattle.launch_machine.specs.Clerk.{Applies, AppliesAll, IsClerkOf, TakesStart, TakesEnd, TakesEffect, first_rows, opened_row, closed_row, with_row, table_size}
 use Rattle.launch_machine.proofs.ClerkLemmas.{IsClerkOf-push}
 use Rattle.launch_machine.proofs.MachineLemmas.{closed_cursor, may_start_on, set_there}
 use Rattle.std.proofs.lemmas.Bool.{cases_eq}
@@ -256,8 +256,8 @@ clerk_dates table log rows job clerk = dates_along table [] log (first_rows tabl
     at_first row is_row = record {
       started = λ t (now, effective). absurd (nothing_effective table (Start job t now) effective);
       launched = λ t effective. absurd (nothing_effective table (End job t Launch) effective);
-      begun = λ t is. absurd (cc ((fresh_in 0 (length table.jobs) job row is_row).cursor, is));
-      kept = λ t is. absurd (cc ((fresh_in 0 (length table.jobs) job row is_row).last, is));
+      begun = λ t is. absurd (cc ((fresh_in 0 (row_count (table_size table)) job row is_row).cursor, is));
+      kept = λ t is. absurd (cc ((fresh_in 0 (row_count (table_size table)) job row is_row).last, is));
     }
 
 -- a launch whose start takes effect isn't started again
@@ -282,9 +282,9 @@ started_once table log job at a b first second =
 -- a date on which a job may open is a period after each launch that isn't after the last
 opens_apart : (table : Table) (job : ℕ) (last cursor : Option ℤ) (now at date : ℤ) → IsJobOpen table job last cursor now date → IsLaunchedBy last at → IsPeriodApart table job at date
 opens_apart table job last cursor now at date opens launched spec period first_minute last_minute is_job kind =
-    let jobs : opens.job ≡ spec = same_job table job opens.job spec opens.is_in.is_job is_job in
+    let size : opens.job ≡ spec = same_job table job opens.job spec opens.is_in.is_job is_job in
     let kinds : Anacron opens.period opens.first_minute opens.last_minute ≡ Anacron period first_minute last_minute =
-    sym opens.kind ∙ ap (λ (j : Job). j.kind) jobs ∙ kind in
+    sym opens.kind ∙ ap (λ (j : Job). j.kind) size ∙ kind in
     let periods : opens.period ≡ period = cc in
     let over : IsOverSince opens.period last date = subst (IsOverSince opens.period last) (sym opens.is_date) opens.may.on.over in
     let since : IsOverSince period (Some launched.at) date =
@@ -324,10 +324,10 @@ ended_before table log job earlier later (then, first) (now, second) lt =
 -- of two launches that are held the earlier ended before the later was started
 pub started_apart : (table : Table) (log : List Entry) (held : List SchedRow) → AreNamedOnce held → All (IsBacked table log) held
     → ((job : ℕ) (at : ℤ) (kind : Kind) → HasEnd table log job at kind → IsHeld held job at kind) → ArePeriodsApart table held
-started_apart table log held once backed ended a b in_a in_b jobs a_launch b_launch lt =
+started_apart table log held once backed ended a b in_a in_b size a_launch b_launch lt =
     let first : HasStart table log a.name.job a.name.at = (All-contains (IsBacked table log) held a backed in_a).start in
     let second : HasStart table log a.name.job b.name.at =
-    subst (λ (j : ℕ). HasStart table log j b.name.at) (sym jobs) (All-contains (IsBacked table log) held b backed in_b).start in
+    subst (λ (j : ℕ). HasStart table log j b.name.at) (sym size) (All-contains (IsBacked table log) held b backed in_b).start in
     let over = ended_before table log a.name.job a.name.at b.name.at first second lt in
     let in_log : HasEnd table log a.name.job a.name.at over.0 =
     subst (λ (l : List Entry). HasEnd table l a.name.job a.name.at over.0) (sym second.1.parts)

@@ -1,9 +1,8 @@
 -- What a settled log has started and ended.
-use Rattle.std.proofs.Common.{◌≡◌, ℕ, ◌<◌, inl, List, length, Option, None, Some, ℤ, ◌≤ℤ◌, refl, sym, ◌∙◌, subst, arith}
+use Rattle.std.proofs.Common.{◌≡◌, ℕ, ◌<◌, inl, List, length, Option, None, Some, ℤ, ◌≤ℤ◌, refl, sym, subst, arith}
 use Rattle.std.specs.Prelude.{slice_get}
 use Rattle.std.proofs.lemmas.Int.{ints, by_lt_z}
 use Rattle.std.proofs.lemmas.Option.{slice_get_within}
-use Rattle.std.proofs.lemmas.List.FromFn.{length-map-range_with_len}
 use Rattle.paxos_base.specs.declared.entry.Entry.{Entry}
 use Rattle.paxos_base.specs.declared.entry.Kind.{Kind}
 use Rattle.paxos_base.specs.declared.rows.JobRow.{JobRow}
@@ -11,21 +10,20 @@ use Rattle.due_set.specs.Calls.{HasCome}
 use Rattle.due_set.specs.Table.{Table, IsAfter, IsJobDue}
 use Rattle.due_set.specs.declared.job.JobKind.{JobKind}
 use Rattle.due_set.proofs.ExistLemmas.{next_up_to}
-use Rattle.paxos_base.specs.Rows.{fresh_row}
-use Rattle.launch_machine.specs.Clerk.{IsClerkOf, first_rows}
+use Rattle.paxos_base.specs.Rows.{row_count}
+use Rattle.launch_machine.specs.Clerk.{IsClerkOf, table_size}
 use Rattle.due_set.proofs.SoundLemmas.{at_place}
 use Rattle.launch_safety.specs.Fits.{HasStart, HasEnd}
 use Rattle.launch_safety.specs.Settled.{IsSettled}
 use Rattle.launch_safety.proofs.CoverLemmas.{IsCovered, IsOver, clerk_covers}
-use Rattle.history.proofs.Heard.{AppliesAll-length}
+use Rattle.history.proofs.TableRows.{clerk_first_version}
 
 -- each job of the table has a row
 pub row_of : (table : Table) (log : List Entry) (rows : List JobRow) (job : ℕ) → IsClerkOf table log rows → job < length table.jobs
     → (row : JobRow) × (slice_get rows job ≡ Some row)
 row_of table log rows job clerk lt =
-    let count : length rows ≡ length table.jobs =
-    AppliesAll-length table (first_rows table) log rows clerk ∙ length-map-range_with_len fresh_row 0 (length table.jobs) in
-    at_place rows job (subst (λ (n : ℕ). job < n) (sym count) lt)
+    let count : length rows ≡ row_count (table_size table) = (clerk_first_version table log rows clerk).numbered.count in
+    at_place rows job (omega (arith, count, lt))
 
 module _ (table : Table) (log : List Entry) (now : ℤ) (job : ℕ) (at : ℤ) (settled : IsSettled table log now)
     (due : IsJobDue table job at) (come : at ≤ℤ now) where

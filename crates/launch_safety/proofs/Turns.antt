@@ -1,5 +1,5 @@
 -- What a replica votes for and calls in a turn of a legal book.
-use Rattle.std.proofs.Common.{◌≡◌, ℕ, ◌≤◌, true, false, Option, Some, None, List, [], ◌∷◌, length, take, drop, ℤ, refl, ap, ◌∙◌, inl, inr, arith, subst, IsTrue}
+use Rattle.std.proofs.Common.{◌≡◌, ℕ, ◌≤◌, true, false, Option, Some, None, List, [], ◌∷◌, take, drop, ℤ, refl, ap, ◌∙◌, inl, inr, arith, subst, IsTrue}
 use Rattle.std.specs.List.{Contains, slice_get}
 use Rattle.std.specs.Ordering.{int_eq}
 use Rattle.std.proofs.lemmas.Bool.Decides.{Decides-int_eq}
@@ -12,7 +12,7 @@ use Rattle.paxos_base.specs.declared.entry.Vote.{Vote}
 use Rattle.paxos_base.specs.declared.rows.JobRow.{JobRow}
 use Rattle.due_set.specs.Table.{Table}
 use Rattle.cluster_sched.specs.declared.row.SchedRow.{SchedRow}
-use Rattle.launch_machine.specs.Clerk.{TakesEnd, first_rows}
+use Rattle.launch_machine.specs.Clerk.{TakesEnd, first_rows, table_size}
 use Rattle.launch_machine.specs.Intent.{MayCall}
 use Rattle.launch_safety.specs.Fits.{HasStart, IsBacked, IsHeld}
 use Rattle.launch_safety.proofs.CoverLemmas.{HasStart-more}
@@ -76,7 +76,7 @@ answered_by who (Answer job at kind rows) = record { to = who; job = job; at = a
 abbrev pub setting_at : ℕ → Table → World → ℕ → Event → Setting
 setting_at n table w who event = record { self = identity_of n who; table = table; event = Some event; said = w.said; answered = answered_by who event }
 
-told_of : (n : ℕ) (table : Table) (st : Standing) (votes : List CastVote) (learned : List Learning) (w : World) → Matches n (length table.jobs) st votes learned w
+told_of : (n : ℕ) (table : Table) (st : Standing) (votes : List CastVote) (learned : List Learning) (w : World) → Matches n (table_size table) st votes learned w
     → (who : ℕ) (cause : Cause) (event : Event) → IsEventOfCause n table st who cause event → TellsWhatWasSaid (setting_at n table w who event) event
 told_of n table st votes learned w m who causes.Campaign event is = rw is tt
 told_of n table st votes learned w m who (causes.Tick now) event (inside, plan, is) = rw is tt

@@ -21,7 +21,7 @@ use Rattle.launch_machine.specs.declared.machine.Intent.TheVariants as intent
 use Rattle.step_spec.proofs.Lists.{nothing_in}
 use Rattle.history.specs.Book.{Row}
 use Rattle.history.specs.Legal.{IsLegal}
-use Rattle.history.proofs.Asks.{busy, call_asked, idle, in_window, is_open_then, minute, opened, sound, start_applies, start_asked, start_entry}
+use Rattle.history.proofs.Asks.{busy, call_asked, idle, in_window, is_open_then, minute, opened, sound, start_applies, start_asked, start_entry, with_table}
 use Rattle.history.proofs.Turns.{Book}
 use Rattle.launch_safety.specs.Parts.{ArrivesTooLate}
 use Rattle.launch_safety.proofs.Alone.{Stands, arrive, calls, end, leading, led, start, vote}
@@ -42,7 +42,7 @@ void_kind spec zone is_in =
     subst (λ kind. (Void ≡ Launch) ↔ IsOnTime kind zone 0 (minute 0) (minute 1)) (sym (by_fields spec zone is_in).1)
     ((λ wrong. absurd cc), (λ on_time. absurd (omega (arith, ints, on_time))))
 
-void_asked : IsIntent busy (opened 0 ∷ []) (minute 1) (intent.Call 0 (minute 0) Void)
+void_asked : IsIntent busy (with_table (opened 0)) (minute 1) (intent.Call 0 (minute 0) Void)
 void_asked =
     let asked = (call_asked 0).0.may in (
       record {
@@ -71,20 +71,20 @@ void = record { name = record { job = 0; at = minute 0 }; kind = Void; now = rec
 abbrev started : List Entry
 started = start_entry 0 ∷ []
 
-applied : AppliesAll busy (first_rows busy) started (opened 0 ∷ [])
-applied = (opened 0 ∷ [], start_applies 0 (lit< tt), refl)
+applied : AppliesAll busy (first_rows busy) started (with_table (opened 0))
+applied = (with_table (opened 0), start_applies 0 (lit< tt), refl)
 
 abbrev start_vote : List Vote
 start_vote = put_vote (vote 0 (start_entry 0)) []
 
 called : Book 1 busy (Stands (leading busy start_vote started) [] (launch ∷ []) [] None)
 called =
-    calls busy start_vote started [] [] [] None (opened 0 ∷ []) 0 (minute 0) (minute 0) Launch Late None (lit< tt) (in_window 0 (lit< tt)) applied (call_asked 0) refl
-    (start busy [] [] [] [] [] None (idle 0 ∷ []) 0 (minute 0) (minute 0) (lit< tt) (in_window 0 (lit< tt)) refl (start_asked 0 (lit< tt)) (led busy))
+    calls busy start_vote started [] [] [] None (with_table (opened 0)) 0 (minute 0) (minute 0) Launch Late None (lit< tt) (in_window 0 (lit< tt)) applied (call_asked 0) refl
+    (start busy [] [] [] [] [] None (with_table (idle 0)) 0 (minute 0) (minute 0) (lit< tt) (in_window 0 (lit< tt)) refl (start_asked 0 (lit< tt)) (led busy))
 
 voided : Book 1 busy (Stands (leading busy start_vote started) (void ∷ []) (launch ∷ []) [] (Some void))
 voided =
-    calls busy start_vote started [] (launch ∷ []) [] None (opened 0 ∷ []) 0 (minute 0) (minute 1) Void Done (Some void) (lit< tt) (in_window 1 (lit< tt)) applied void_asked refl called
+    calls busy start_vote started [] (launch ∷ []) [] None (with_table (opened 0)) 0 (minute 0) (minute 1) Void Done (Some void) (lit< tt) (in_window 1 (lit< tt)) applied void_asked refl called
 
 came : Book 1 busy (Stands (leading busy start_vote started) (void ∷ []) (launch ∷ []) (0 ∷ []) (Some void))
 came = arrive busy (leading busy start_vote started) (void ∷ []) (launch ∷ []) [] (Some void) 0 launch refl (λ has. nothing_in has) voided
@@ -93,7 +93,7 @@ abbrev void_entry : Entry
 void_entry = entry.End 0 (minute 0) Void
 
 ended : Book 1 busy (Stands (leading busy (put_vote (vote 1 void_entry) start_vote) (started ++ void_entry ∷ [])) (void ∷ []) (launch ∷ []) (0 ∷ []) None)
-ended = end busy start_vote started (void ∷ []) (launch ∷ []) (0 ∷ []) void (opened 0 ∷ []) applied (is_open_then 0) came
+ended = end busy start_vote started (void ∷ []) (launch ∷ []) (0 ∷ []) void (with_table (opened 0)) applied (is_open_then 0) came
 
 pub too_late : (table : Table) × (book : List Row) × IsSound table × IsLegal 1 table book × ArrivesTooLate 1 table book
 too_late = (

@@ -16,8 +16,8 @@ use Rattle.due_set.proofs.Rising.{Contains-head}
 use Rattle.cluster_sched.specs.Held.{AreNamedOnce}
 use Rattle.cluster_sched.specs.declared.row.SchedRow.{SchedRow}
 use Rattle.launch_machine.specs.Answers.{IsCallKind}
-use Rattle.paxos_base.specs.Rows.{fresh_row}
-use Rattle.launch_machine.specs.Clerk.{MayStart, TakesStart, first_rows}
+use Rattle.paxos_base.specs.Rows.{fresh_row, row_count}
+use Rattle.launch_machine.specs.Clerk.{MayStart, TakesStart, first_rows, table_size}
 use Rattle.launch_machine.proofs.ExistLemmas.{starts_of_exist}
 use Rattle.launch_machine.proofs.StartLemmas.{starts_front, starts_rise}
 use Rattle.launch_safety.specs.Fits.{Fits, HasEnd, IsBacked, IsHeld}
@@ -35,9 +35,10 @@ void_log job at started = Start job at started ∷ End job at Void ∷ []
 -- at first each job has a fresh row
 pub fresh_in : (table : Table) (job : ℕ) → job < length table.jobs → slice_get (first_rows table) job ≡ Some (fresh_row job)
 fresh_in table job below =
-    let count : length (first_rows table) ≡ length table.jobs = length-map-range_with_len fresh_row 0 (length table.jobs) in
-    slice_get-get_or (first_rows table) job (fresh_row job) (omega arith)
-    ∙ ap Some (get_or-map-range_with_len fresh_row 0 (length table.jobs) job job (fresh_row job) below (omega arith))
+    let total : ℕ = row_count (table_size table) in
+    let count : length (first_rows table) ≡ total = length-map-range_with_len fresh_row 0 total in
+    slice_get-get_or (first_rows table) job (fresh_row job) (omega (arith, count, below))
+    ∙ ap Some (get_or-map-range_with_len fresh_row 0 total job job (fresh_row job) (omega (arith, below)) (omega arith))
 
 void_ended : (table : Table) (job : ℕ) (at started called : ℤ) (by j : ℕ) (t : ℤ) (kind : Kind) → HasEnd table (void_log job at started) j t kind
     → IsHeld (void_row job at called by ∷ []) j t kind

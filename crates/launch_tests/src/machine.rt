@@ -1,6 +1,7 @@
 //! Starts and ends of launches, in turn.
-ghost use Rattle.std.specs.Prelude.{◌<◌, ◌+◌, ◌^◌, ◌↔◌, IfOk, IsSome, IsTrue};
+ghost use Rattle.std.specs.Prelude.{◌<◌, ◌+◌, ◌^◌, ◌↔◌, IfOk, IsTrue};
 ghost use Rattle.launch_machine.specs.Machine.{CanCount, StandsFor};
+ghost use Rattle.paxos_base.specs.Rows.{OpenHasCursor};
 
 use crate::build::{FROM, HOUR, When, instant_in, two_jobs};
 use due_set::JobTable;
@@ -32,7 +33,7 @@ fn can_count(machine: &Machine, table: &JobTable, entry: Entry) -> bool
     ensures { IsTrue result → CanCount machine.now.rows entry }
 {
     match entry {
-        Entry::End { job, .. } => job < table.jobs() && has_room(machine.row(job)),
+        Entry::End { job, .. } => job <= table.jobs() && has_room(machine.row(job)),
         Entry::Noop | Entry::Start { .. } => true,
     }
 }
@@ -254,6 +255,16 @@ const SECOND: JobRow = JobRow {
     voided: 1,
 };
 
+// The table's own row.
+const OWN: JobRow = JobRow {
+    job: 2,
+    cursor: None,
+    open_now: None,
+    last: None,
+    launched: 0,
+    voided: 0,
+};
+
 // A table of an hour, at no grace, with a job at minutes 0, 20 and 40 and a job at minute 0.
 fn table_of_hour(alloc: Global) -> Result<JobTable, Fail> {
     two_jobs(alloc, HOUR, 0, When::At("0,20,40"), When::At("0"))
@@ -265,14 +276,15 @@ fn starts_and_ends_launches_in_turn(rt: HostRuntime) -> Result<(), Fail> {
     let mut machine = Machine::new(rt.alloc(), &table)?;
     assert_eq!(rt; first_difference(&mut machine, &table, STEPS), None);
     let rows = machine.copy()?.copy_rows(rt.alloc())?;
-    assert_eq!(rt; rows.items.as_slice(), [FIRST, SECOND].as_slice());
+    assert_eq!(rt; rows.items.as_slice(), [FIRST, SECOND, OWN].as_slice());
     Ok(())
 }
 
+// Whether the row has a cursor, where it is open.
 fn has_cursor(row: JobRow) -> bool
-    ensures { IsTrue result → IsSome row.cursor }
+    ensures { IsTrue result → OpenHasCursor row }
 {
-    row.cursor.is_some()
+    row.open_now.is_none() || row.cursor.is_some()
 }
 
 // What a leader does at a minute of the hour, of a machine of these rows, where they stand for the table.
@@ -314,7 +326,7 @@ struct Resumed {
 
 const RESUMED: &[Resumed] = &[
     Resumed {
-        rows: &[FIRST, SECOND],
+        rows: &[FIRST, SECOND, OWN],
         minute: 20,
         intent: Some(Intent::Call {
             job: 0,
@@ -323,7 +335,7 @@ const RESUMED: &[Resumed] = &[
         }),
     },
     Resumed {
-        rows: &[IDLE, SECOND],
+        rows: &[IDLE, SECOND, OWN],
         minute: 40,
         intent: Some(Intent::Start {
             job: 0,
@@ -331,17 +343,35 @@ const RESUMED: &[Resumed] = &[
         }),
     },
     Resumed {
-        rows: &[IDLE, SECOND],
+        rows: &[IDLE, SECOND, OWN],
         minute: 39,
         intent: Some(Intent::Rest),
     },
     Resumed {
-        rows: &[SECOND, FIRST],
+        rows: &[SECOND, FIRST, OWN],
         minute: 20,
         intent: None,
     },
     Resumed {
-        rows: &[FIRST],
+        rows: &[FIRST, SECOND],
+        minute: 20,
+        intent: None,
+    },
+    Resumed {
+        rows: &[FIRST, OWN],
+        minute: 20,
+        intent: None,
+    },
+    Resumed {
+        rows: &[
+            FIRST,
+            SECOND,
+            JobRow {
+                cursor: Some(FROM),
+                launched: 1,
+                ..OWN
+            },
+        ],
         minute: 20,
         intent: None,
     },

@@ -6,7 +6,7 @@ ghost use Rattle.replica_node.specs.Node.{IsNodeAtRest};
 ghost use Rattle.replica_node.specs.Stopped.{IsStopped};
 
 use crate::nodes::{
-    End, Told, empty_disk, empty_table, end_with, found_on, input_of, packet_of, play,
+    End, Told, empty_disk, empty_table, end_with, found_on, input_of, letter_of, play,
 };
 use disk_model::{ArmedDisk, MemDisk};
 use due_set::JobTable;
@@ -104,8 +104,8 @@ fn disk_for(
     let Some(told) = step.earlier else {
         return Ok(disk);
     };
-    let packet = packet_of(told);
-    let (disk, _) = play(rt, alloc, table, disk, input_of(told, &packet));
+    let letter = letter_of(told);
+    let (disk, _) = play(rt, alloc, table, disk, input_of(told, &letter));
     Ok(disk)
 }
 
@@ -118,11 +118,11 @@ fn step_armed(
     told: Told,
     arm: (u32, u32),
 ) -> (MemDisk, End) {
-    let packet = packet_of(told);
+    let letter = letter_of(told);
     match Node::recover(alloc, 0, 3, table, disk) {
         Ok(mut node) => {
             node.arm(arm.0, arm.1);
-            handle_armed(rt, alloc, table, node, input_of(told, &packet))
+            handle_armed(rt, alloc, table, node, input_of(told, &letter))
         }
         Err((disk, _)) => (disk, End::NotRecovered),
     }

@@ -1,5 +1,6 @@
 //! The first of three replicas, with an hour without jobs.
 ghost use Rattle.std.specs.Prelude.{◌≡◌, IfOk, OnOk, length};
+ghost use Rattle.launch_machine.specs.Clerk.{table_size};
 ghost use Rattle.paxos_base.specs.Rows.{RowsStand};
 ghost use Rattle.replica_core.specs.Step.{IsOfTable};
 
@@ -29,7 +30,7 @@ fn no_votes(alloc: Global) -> VoteList {
 }
 
 fn first_durable(alloc: Global, table: &JobTable) -> Result<Durable, Fail>
-    ensures rows { IfOk result (λ durable. RowsStand durable.rows (length table.now.jobs)) }
+    ensures rows { IfOk result (λ durable. RowsStand durable.rows (table_size table.now)) }
     ensures tried { IfOk result (λ durable. durable.tried ≡ 0) }
 {
     let rows = Machine::new(alloc, table)?.copy_rows(alloc)?;

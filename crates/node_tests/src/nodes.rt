@@ -5,7 +5,7 @@ ghost use Rattle.replica_node.specs.Node.{IsNodeAtRest};
 
 use disk_model::{Disk, MemDisk};
 use due_set::JobTable;
-use paxos_base::Durable;
+use paxos_base::{Durable, TableSize};
 use replica_core::Input;
 use replica_node::Node;
 use replica_store::{Store, StoreFault};
@@ -37,15 +37,15 @@ pub enum Told {
     Prepare,
     /// A no-op is to be voted for.
     Accept,
-    /// The launch table, which has no rows, as it is at this slot.
+    /// The launch table, which has the table's own row alone, as it is at this slot.
     Snap(u8),
     /// A packet of no kind.
     NoLetter,
 }
 
-/// The packet that it is told.
-pub fn packet_of(told: Told) -> [u8; 56] {
-    let mut bytes = [0; 56];
+/// The bytes of a letter that tells it. Of all but a launch table they are the first packet alone.
+pub fn letter_of(told: Told) -> [u8; 112] {
+    let mut bytes = [0; 112];
     bytes[0] = match told {
         Told::Prepare => 1,
         Told::Accept => 4,
@@ -54,19 +54,28 @@ pub fn packet_of(told: Told) -> [u8; 56] {
     };
     bytes[1] = 1;
     match told {
-        Told::Snap(slot) => bytes[23] = slot,
+        Told::Snap(slot) => {
+            bytes[23] = slot;
+            bytes[31] = 1;
+            bytes[56] = 10;
+            bytes[57] = 1;
+            bytes[79] = slot;
+        }
         _ => bytes[15] = 9,
     }
     bytes
 }
 
-/// The same as an input, with its packet.
-pub fn input_of(told: Told, packet: &[u8]) -> Input<'_>
+/// The same as an input, with the bytes of its letter.
+pub fn input_of(told: Told, letter: &[u8]) -> Input<'_>
     ensures { (table : Table) → IsInputInside table result }
 {
     match told {
         Told::Campaign => Input::Campaign,
-        _ => Input::Hear { bytes: packet },
+        Told::Snap(_) => Input::Hear { bytes: letter },
+        _ => Input::Hear {
+            bytes: &letter[..letter.len().min(56)],
+        },
     }
 }
 
@@ -122,8 +131,14 @@ pub fn play<D: Disk>(
     }
 }
 
+// The size of a table without jobs.
+const NO_JOBS: TableSize = TableSize {
+    jobs: 0,
+    last_version: 0,
+};
+
 /// What the files of a disk stand for.
 pub fn found_on(alloc: Global, disk: &mut MemDisk) -> Result<Durable, StoreFault> {
-    let (_, durable) = Store::attach(alloc, disk, 0)?;
+    let (_, durable) = Store::attach(alloc, disk, NO_JOBS)?;
     Ok(durable)
 }

@@ -4,6 +4,7 @@ use crate::arms::handle_armed;
 use crate::nodes::{End, HOUR, empty_disk, end_with, play};
 use disk_model::{ArmedDisk, MemDisk};
 use due_set::{JobKind, JobSpec, JobTable};
+use paxos_base::TableSize;
 use replica_core::Input;
 use replica_node::Node;
 use replica_store::Store;
@@ -18,25 +19,36 @@ fn table_of_one(alloc: Global) -> Result<JobTable, Fail> {
     Ok(JobTable::in_utc(alloc, HOUR, 10, jobs)?)
 }
 
-// A letter of replica 1 with the launch table as it is at a slot. Its one row says that the job was launched as many times.
-fn snapshot(slot: u8) -> [u8; 112] {
-    let mut bytes = [0; 112];
+// A letter of replica 1 with the launch table as it is at a slot. Its first row says that the job was launched as many times,
+// and the other is the table's own.
+fn snapshot(slot: u8) -> [u8; 168] {
+    let mut bytes = [0; 168];
     bytes[0] = 9;
     bytes[1] = 1;
     bytes[23] = slot;
-    bytes[31] = 1;
+    bytes[31] = 2;
     bytes[56] = 10;
     bytes[57] = 1;
     bytes[71] = slot;
     bytes[79] = slot;
+    bytes[112] = 10;
+    bytes[113] = 1;
+    bytes[119] = 1;
+    bytes[135] = slot;
     bytes
 }
+
+// The size of a table of one job.
+const ONE_JOB: TableSize = TableSize {
+    jobs: 1,
+    last_version: 0,
+};
 
 // What a disk keeps: the base, how many launches its row counts, and the round that was tried.
 type Kept = (u64, u32, u64);
 
 fn kept_on(alloc: Global, disk: &mut MemDisk) -> Result<Kept, Fail> {
-    let (_, found) = Store::attach(alloc, disk, 1)?;
+    let (_, found) = Store::attach(alloc, disk, ONE_JOB)?;
     let launched = found.rows.items.first().map_or(0, |row| row.launched);
     Ok((found.base, launched, found.tried))
 }

@@ -1,7 +1,7 @@
 //! Steps of a node, each after a start from its disk.
 use crate::nodes::End::{Done, Refused};
 use crate::nodes::Told::{Accept, Campaign, NoLetter, Prepare};
-use crate::nodes::{End, Told, empty_disk, empty_table, found_on, input_of, packet_of, play};
+use crate::nodes::{End, Told, empty_disk, empty_table, found_on, input_of, letter_of, play};
 use disk_model::MemDisk;
 use due_set::JobTable;
 use std::alloc::Global;
@@ -68,8 +68,8 @@ fn take(
     disk: MemDisk,
     row: &Step,
 ) -> Result<MemDisk, Fail> {
-    let packet = packet_of(row.told);
-    let (mut disk, end) = play(rt, alloc, table, disk, input_of(row.told, &packet));
+    let letter = letter_of(row.told);
+    let (mut disk, end) = play(rt, alloc, table, disk, input_of(row.told, &letter));
     assert!(rt; end == row.end, "{row:?}");
     finds(rt, alloc, &mut disk, row)?;
     Ok(disk)

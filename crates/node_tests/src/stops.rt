@@ -1,6 +1,6 @@
 //! What is kept after a call of the disk that fails, and after one within which it stops.
 use crate::nodes::End::{Done, Ended, NotRecovered};
-use crate::nodes::{End, Told, empty_disk, empty_table, found_on, input_of, packet_of, play};
+use crate::nodes::{End, Told, empty_disk, empty_table, found_on, input_of, letter_of, play};
 use disk_model::{ArmedDisk, MemDisk};
 use due_set::JobTable;
 use std::alloc::Global;
@@ -169,8 +169,8 @@ fn stops(
 ) -> Result<(), Fail> {
     let mut disk = empty_disk(alloc, &[])?;
     disk.arm(row.pass, row.image);
-    let packet = packet_of(told);
-    let (mut disk, end) = play(rt, alloc, table, disk, input_of(told, &packet));
+    let letter = letter_of(told);
+    let (mut disk, end) = play(rt, alloc, table, disk, input_of(told, &letter));
     assert!(rt; end == row.end, "{told:?} {row:?}");
     disk.revive();
     let is_kept = has_change(alloc, &mut disk)?;

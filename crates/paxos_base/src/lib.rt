@@ -26,6 +26,6 @@ pub use laws::{
 };
 pub use layout::PACKET_BYTES;
 pub use members::{Members, majority};
-pub use rows::{JobRow, RowList, rows_stand};
+pub use rows::{JobRow, RowList, TableSize, rows_stand};
 pub use votes::{place_of, put_vote, vote_at};
 pub use wire::{EntryFault, entry_of, get_entry, numbers_of, put_entry};

@@ -5,7 +5,7 @@ use Rattle.std.proofs.lemmas.List.Elements.{All-head, All-tail}
 use Rattle.std.specs.List.{AllByRecursion}
 use Rattle.std.proofs.lemmas.Bool.{and_from, and_parts, lt-ltb, eq-eqb, false≢true}
 use Rattle.paxos_base.specs.Ballot.{IsBallot, member_of, is_ballot_of}
-use Rattle.paxos_base.specs.Rows.{OpenHasCursor, OpenHaveCursors, RowsStand}
+use Rattle.paxos_base.specs.Rows.{OpenHasCursor, OpenHaveCursors, AreNumbered}
 use Rattle.paxos_base.specs.declared.rows.JobRow.{JobRow}
 use Rattle.paxos_base.specs.declared.entry.Entry.TheVariants.{Noop, Start, End}
 use Rattle.paxos_base.specs.declared.entry.Kind.TheVariants.{Launch, Void}
@@ -268,10 +268,10 @@ length-rows slot [] = refl
 length-rows slot (row ∷ rows) = ap suc (length-rows slot rows)
 
 -- the rows of a table are a letter
-pub IsLetter-copy : (members from slot jobs : ℕ) (rows : List JobRow) → from < members → RowsStand rows jobs → OpenHaveCursors rows → All HasFewCounts rows
+pub IsLetter-copy : (members from slot count : ℕ) (rows : List JobRow) → from < members → AreNumbered rows count → OpenHaveCursors rows → All HasFewCounts rows
     → IsLetter members from (copy_of slot rows)
 unfolding RowsCount
-IsLetter-copy members from slot jobs rows below stand cursors few =
+IsLetter-copy members from slot total rows below stand cursors few =
     let packets : List Packet = map (λ row. SnapRow slot row) rows in
     let count : RowsCount 0 rows = λ k row is. let e : row.job ≡ k = stand.in_order k row is in omega (arith, e) in
     subst (λ (n : ℕ). IsLetter members from (Snap slot n ∷ packets)) (length-rows slot rows)

@@ -1,12 +1,12 @@
-//! Ballots, sets of replicas, entries, rows and votes.
+//! Ballots, sets of replicas, entries and votes.
 ghost use Rattle.std.specs.Prelude.{◌≡◌, ◌<◌, ◌≤◌, IsTrue, None, Ok};
 ghost use Rattle.std.specs.Ordering.{nat_cmp};
 ghost use Rattle.paxos_base.specs.Members.{AllBelow, Meet};
 
 use crate::builders::{Cast, list_of};
 use paxos_base::{
-    Ballot, Entry, EntryFault, JobRow, Kind, Members, PACKET_BYTES, RowList, get_entry,
-    majorities_meet, majority, place_of, put_entry, rows_stand, vote_at,
+    Ballot, Entry, EntryFault, Kind, Members, PACKET_BYTES, get_entry, majorities_meet, majority,
+    place_of, put_entry, vote_at,
 };
 use std::cmp::Ordering;
 use std::test::*;
@@ -185,22 +185,6 @@ fn entries_have_their_bytes(rt: HostRuntime) {
         assert_eq!(rt; written_and_read(entry, &mut packet), Ok(entry));
         assert_eq!(rt; packet.as_slice(), row.bytes.as_slice(), "{entry:?}");
     }
-}
-
-#[test]
-fn rows_stand_in_order(rt: HostRuntime) -> Result<(), Fail> {
-    let row = JobRow {
-        job: 0,
-        cursor: None,
-        open_now: None,
-        last: None,
-        launched: 0,
-        voided: 0,
-    };
-    let mut items = Vec::new(rt.alloc());
-    items.push(row)?;
-    assert!(rt; rows_stand(&RowList { items }, 1, 0));
-    Ok(())
 }
 
 // Votes out of order, of which the last is in place of the first.

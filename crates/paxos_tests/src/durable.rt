@@ -1,6 +1,6 @@
 //! What a replica keeps on its disk, after a change of each kind.
 use crate::builders::{Cast, ballot_of, list_of, no_votes, vote_of};
-use paxos_base::{Delta, Durable, JobRow, RowList};
+use paxos_base::{Delta, Durable, JobRow, RowList, TableSize};
 use std::alloc::Global;
 use std::test::*;
 
@@ -17,6 +17,12 @@ const BEHIND: Cast = Cast {
     job: 1,
 };
 
+// Of a table with two jobs.
+const SIZE: TableSize = TableSize {
+    jobs: 2,
+    last_version: 0,
+};
+
 fn change(alloc: Global, number: u8) -> Result<Delta, Fail> {
     Ok(match number {
         0 => Delta::Tried(ballot_of(9)?),
@@ -25,7 +31,7 @@ fn change(alloc: Global, number: u8) -> Result<Delta, Fail> {
         3 => Delta::Voted(vote_of(BELOW)?),
         _ => Delta::Base {
             slot: 5,
-            rows: RowList::fresh(alloc, 2)?,
+            rows: RowList::fresh(alloc, SIZE)?,
         },
     })
 }
@@ -36,7 +42,9 @@ fn changed(alloc: Global) -> Result<Durable, Fail> {
         promised: None,
         votes: no_votes(alloc),
         base: 0,
-        rows: RowList::fresh(alloc, 0)?,
+        rows: RowList {
+            items: Vec::new(alloc),
+        },
     };
     for number in 0..5 {
         kept.apply(change(alloc, number)?)?;
@@ -51,7 +59,7 @@ fn changes_are_taken_over(rt: HostRuntime) -> Result<(), Fail> {
         promised: Some(ballot_of(18)?),
         votes: list_of(rt.alloc(), &[BEHIND])?,
         base: 5,
-        rows: RowList::fresh(rt.alloc(), 2)?,
+        rows: RowList::fresh(rt.alloc(), SIZE)?,
     };
     assert_eq!(rt; changed(rt.alloc())?.clone()?, expected);
     Ok(())
@@ -60,15 +68,15 @@ fn changes_are_taken_over(rt: HostRuntime) -> Result<(), Fail> {
 #[test]
 fn fresh_rows_have_heard_of_nothing(rt: HostRuntime) -> Result<(), Fail> {
     let row = JobRow {
-        job: 1,
+        job: 2,
         cursor: None,
         open_now: None,
         last: None,
         launched: 0,
         voided: 0,
     };
-    let rows = RowList::fresh(rt.alloc(), 2)?;
-    assert_eq!(rt; rows.items.len(), 2);
-    assert_eq!(rt; rows.items.get(1), Some(&row));
+    let rows = RowList::fresh(rt.alloc(), SIZE)?;
+    assert_eq!(rt; rows.items.len(), 3);
+    assert_eq!(rt; rows.items.get(2), Some(&row));
     Ok(())
 }

@@ -1,4 +1,4 @@
-//! Ballots, letters and votes, compared with bytes and numbers from outside, and protocols played step by step.
+//! Ballots, letters, rows and votes, compared with bytes and numbers from outside, and protocols played step by step.
 #![tactic(auto)]
 
 #[cfg(test)]
@@ -19,6 +19,8 @@ mod learner;
 mod letter;
 #[cfg(test)]
 mod letter_rows;
+#[cfg(test)]
+mod rows;
 #[cfg(test)]
 mod term;
 #[cfg(test)]

@@ -6,6 +6,8 @@ use Rattle.std.proofs.lemmas.Bool.{le-ltb, lt-ltb, cases_Bool, and_parts}
 use Rattle.std.proofs.lemmas.List.Sums.{sum_by-cons}
 use Rattle.std.proofs.Math.Bool.{or-false}
 use Rattle.std.proofs.lemmas.List.{append-nil}
+use Rattle.launch_machine.specs.Clerk.{table_size}
+use Rattle.paxos_base.specs.declared.rows.TableSize.{TableSize}
 use Rattle.paxos_base.specs.declared.entry.Vote.{Vote}
 use Rattle.due_set.specs.Table.{Table}
 use Rattle.paxos_letter.specs.declared.packet.Packet.{Packet}
@@ -220,12 +222,12 @@ pub record Hearing (table : Table) (core : Core) (from : ℕ) (packets left : Li
   pub steady : IsDraftSteady table core draft
   pub once : changes_of_draft draft.change + count_by asks_change (messages_of left) ≤ 1
   pub few : length draft.learnt.items + length left ≤ length packets
-  pub rows : AllByRecursion (BringsRows (length table.jobs)) (messages_of left)
-  pub small : are_small (length table.jobs) left ≡ true
+  pub rows : AllByRecursion (BringsRows (table_size table)) (messages_of left)
+  pub small : are_small (table_size table) left ≡ true
 
 -- before the first packet
 pub hearing-none : (table : Table) (core : Core) (from : ℕ) (packets : List Packet) (draft : Draft) → drafted (fixed_of core) draft ≡ idle_desk core → IsDraftSteady table core draft → draft.change ≡ None
-    → draft.learnt.items ≡ [] → count_by asks_change (messages_of packets) ≤ 1 → AllByRecursion (BringsRows (length table.jobs)) (messages_of packets) → are_small (length table.jobs) packets ≡ true
+    → draft.learnt.items ≡ [] → count_by asks_change (messages_of packets) ≤ 1 → AllByRecursion (BringsRows (table_size table)) (messages_of packets) → are_small (table_size table) packets ≡ true
     → Hearing table core from packets packets false draft
 hearing-none table core from packets draft idle steady none nothing once rows small =
     let quiet = copied-none core draft idle in
@@ -244,19 +246,19 @@ pub once-now : (packet : Packet) (rest : List Packet) (changes : ℕ) → change
 once-now packet rest changes once = let first = first-asks packet rest in omega (arith, first, once)
 
 -- the rows that a packet brings, and those behind it, are of the table
-pub first-rows : (jobs : ℕ) (packet : Packet) (rest : List Packet) → AllByRecursion (BringsRows jobs) (messages_of (packet ∷ rest)) → BringsRowsIn jobs (message_in packet rest) × AllByRecursion (BringsRows jobs) (messages_of rest)
+pub first-rows : (size : TableSize) (packet : Packet) (rest : List Packet) → AllByRecursion (BringsRows size) (messages_of (packet ∷ rest)) → BringsRowsIn size (message_in packet rest) × AllByRecursion (BringsRows size) (messages_of rest)
 unfolding messages_of
-first-rows jobs (packet.Prepare ballot slot) rest rows = rows
-first-rows jobs (packet.Promise ballot slot count) rest rows = rows
-first-rows jobs (packet.OldVote ballot slot cast entry) rest rows = rows
-first-rows jobs (packet.Accept ballot slot entry) rest rows = rows
-first-rows jobs (packet.Accepted ballot slot) rest rows = rows
-first-rows jobs (packet.Nack ballot promised) rest rows = rows
-first-rows jobs (packet.Known slot entry) rest rows = rows
-first-rows jobs (packet.AskFrom slot) rest rows = rows
-first-rows jobs (packet.Snap slot count) rest rows = rows
-first-rows jobs (packet.SnapRow slot row) rest rows = (tt, rows)
-first-rows jobs (packet.Lead ballot slot) rest rows = rows
+first-rows size (packet.Prepare ballot slot) rest rows = rows
+first-rows size (packet.Promise ballot slot count) rest rows = rows
+first-rows size (packet.OldVote ballot slot cast entry) rest rows = rows
+first-rows size (packet.Accept ballot slot entry) rest rows = rows
+first-rows size (packet.Accepted ballot slot) rest rows = rows
+first-rows size (packet.Nack ballot promised) rest rows = rows
+first-rows size (packet.Known slot entry) rest rows = rows
+first-rows size (packet.AskFrom slot) rest rows = rows
+first-rows size (packet.Snap slot count) rest rows = rows
+first-rows size (packet.SnapRow slot row) rest rows = (tt, rows)
+first-rows size (packet.Lead ballot slot) rest rows = rows
 
 -- one packet more was heard
 pub hearing-next : (table : Table) (core : Core) (from : ℕ) (packets rest : List Packet) (packet : Packet) (asked now_asked : Bool) (old new : Draft) → Hearing table core from packets (packet ∷ rest) asked old
@@ -281,8 +283,8 @@ hearing-next table core from packets rest packet asked now_asked old new hearing
       steady = steady;
       once = let before = hearing.once in omega (arith, first, before, once);
       few = let before = hearing.few in omega (arith, few, before);
-      rows = (first-rows (length table.jobs) packet rest hearing.rows).1;
-      small = (and_parts (is_small (length table.jobs) packet) (are_small (length table.jobs) rest) hearing.small).1;
+      rows = (first-rows (table_size table) packet rest hearing.rows).1;
+      small = (and_parts (is_small (table_size table) packet) (are_small (table_size table) rest) hearing.small).1;
     }
   where
     once_with : Bool → Bool → Once

@@ -10,7 +10,7 @@ use Rattle.due_set.specs.Table.{Table}
 use Rattle.launch_machine.specs.Answers.{IsIntent}
 use Rattle.launch_machine.specs.declared.machine.Intent.{Intent}
 use Rattle.launch_machine.proofs.ClerkLemmas.{AppliesAll-same}
-use Rattle.launch_machine.specs.Clerk.{AppliesAll}
+use Rattle.launch_machine.specs.Clerk.{AppliesAll, table_size}
 use Rattle.launch_machine.specs.Machine.{Launches}
 use Rattle.step_spec.specs.Act.{Act}
 use Rattle.step_spec.specs.Letters.{IsHeardAs, heard_in}
@@ -54,7 +54,7 @@ one_event table replica (input.Tick now) a b (plan, asked, one) (again, asked_ag
     one ∙ ap (told.Tick now.0) (one_plan table replica now.0 plan again asked asked_again) ∙ sym other
 one_event table replica (input.Hear bytes) a b (from, messages, heard, one) (another, others, again, other) =
     let same = one_letter replica.identity.members from another heard.packets again.packets bytes.now heard.spells again.spells in
-    let said : messages ≡ others = heard.heard ∙ ap (heard_in (length table.jobs)) same.1 ∙ sym again.heard in
+    let said : messages ≡ others = heard.heard ∙ ap (heard_in (table_size table)) same.1 ∙ sym again.heard in
     one ∙ rw (same.0, said) (sym other)
 one_event table replica (input.Answer job at kind) a b one other = one ∙ sym other
 
@@ -97,7 +97,7 @@ event_alike table old other (input.Tick now) event alike (plan, asked, is) =
     (plan, record { rows = asked.rows ∙ sym (ap (λ (machine : Launches). machine.rows) alike.machine); intent = asked.intent }, is)
 event_alike table old other (input.Hear bytes) event alike (from, messages, heard, is) =
     let members : other.identity.members ≡ old.identity.members = sym (ap (λ (identity : Identity). identity.members) alike.identity) in
-    (from, messages, subst (λ (members : ℕ). IsHeardAs members (length table.jobs) bytes.now from messages) members heard, is)
+    (from, messages, subst (λ (members : ℕ). IsHeardAs members (table_size table) bytes.now from messages) members heard, is)
 event_alike table old other (input.Answer job at kind) event alike is =
     is ∙ ap (told.Answer job at kind) (sym (ap (λ (machine : Launches). machine.rows) alike.machine))
 

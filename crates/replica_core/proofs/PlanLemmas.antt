@@ -1,6 +1,8 @@
 -- What a letter that was read is heard as, and what of a draft its letters need.
 use Rattle.std.proofs.Common.{◌≡◌, ◌↔◌, ℕ, ◌<◌, ltb, true, false, List, [], ◌∷◌, map, Option, Some, None, Ok, Err, refl, sym, ap, ◌∙◌, length, ℤ, Bor}
 use Rattle.std.proofs.lemmas.Bool.{and_parts, ltb-true}
+use Rattle.launch_machine.specs.Clerk.{table_size}
+use Rattle.paxos_base.specs.declared.rows.TableSize.{TableSize}
 use Rattle.paxos_letter.specs.Letters.{Spells}
 use Rattle.paxos_letter.specs.declared.fault.LetterFault.{LetterFault}
 use Rattle.paxos_letter.specs.Spelling.{fields_of}
@@ -38,18 +40,18 @@ read-from members from (packet ∷ packets) bytes spells =
     ltb-true from members (rw (named from packet) at below)
 
 -- a letter beyond the bounds is heard as one without messages
-pub hears-nothing : (jobs from : ℕ) (packets : List Packet) (core : Core) (draft : Draft) → is_small_letter jobs packets ≡ false → drafted (fixed_of core) draft ≡ idle_desk core
-    → Makes core (hear_all (own_identity core) from (heard_in jobs packets) not_yet (state_of core)) draft
+pub hears-nothing : (size : TableSize) (from : ℕ) (packets : List Packet) (core : Core) (draft : Draft) → is_small_letter size packets ≡ false → drafted (fixed_of core) draft ≡ idle_desk core
+    → Makes core (hear_all (own_identity core) from (heard_in size packets) not_yet (state_of core)) draft
 unfolding hear_all
-hears-nothing jobs from packets core draft large idle = rw large (idle ∙ sym (done-nil (idle_desk core)))
+hears-nothing size from packets core draft large idle = rw large (idle ∙ sym (done-nil (idle_desk core)))
 
 -- a letter that was read is heard
-pub hears-letter : (table : Table) (jobs from : ℕ) (packets : List Packet) (bytes : List ℕ) (core : Core) (draft : Draft) → Spells core.members from packets bytes
-    → jobs ≡ length table.jobs → Makes core (hear_all (own_identity core) from (heard_in jobs packets) not_yet (state_of core)) draft → HearsLetter table bytes core draft
-hears-letter table jobs from packets bytes core draft spells jobs_are makes =
+pub hears-letter : (table : Table) (size : TableSize) (from : ℕ) (packets : List Packet) (bytes : List ℕ) (core : Core) (draft : Draft) → Spells core.members from packets bytes
+    → size ≡ table_size table → Makes core (hear_all (own_identity core) from (heard_in size packets) not_yet (state_of core)) draft → HearsLetter table bytes core draft
+hears-letter table size from packets bytes core draft spells jobs_are makes =
     record {
       from = from;
-      messages = heard_in jobs packets;
+      messages = heard_in size packets;
       heard = record { packets = packets; spells = spells; heard = ap (λ count. heard_in count packets) jobs_are };
       makes = makes;
     }
@@ -89,7 +91,7 @@ event-copyable : (table : Table) (core : Core) (given : Input) (event : Event) �
 event-copyable table core input.Campaign event rows is = rw is tt
 event-copyable table core (input.Tick now) event rows (plan, asked, is) = rw (is, asked.rows) rows
 event-copyable table core (input.Hear bytes) event rows (from, messages, heard, is) =
-    rw is (all-rows-sent (length table.jobs) messages (all-rows-heard core.members (length table.jobs) bytes.now from messages heard))
+    rw is (all-rows-sent (table_size table) messages (all-rows-heard core.members (table_size table) bytes.now from messages heard))
 event-copyable table core (input.Answer job at kind) event rows is = rw is tt
 
 -- so what a step says can be sent
@@ -97,12 +99,12 @@ pub made-letters : (table : Table) (given : Input) (core : Core) (draft : Draft)
     → (event : Event) → Makes core (step (own_identity core) event (state_of core)) draft → BringsCopyable event
     → CanBeSent (own_identity core) (step (own_identity core) event (state_of core)) (map said_in draft.sends.items)
 made-letters table given core draft of_table made here there event makes brings =
-    let stand = stand-before table core.rows core.learner.entries core.machine.rows (length table.jobs) of_table.rows of_table.stands.rows in
-    step-letters (own_identity core) event (state_of core) (map said_in draft.sends.items) (copyable core.rows (length table.jobs) stand here) brings (said-made core event draft makes)
+    let stand = stand-before table core.rows core.learner.entries core.machine.rows of_table.rows of_table.stands.rows in
+    step-letters (own_identity core) event (state_of core) (map said_in draft.sends.items) (copyable core.rows (table_size table) stand here) brings (said-made core event draft makes)
 
 pub made-copyable : (table : Table) (given : Input) (core : Core) (draft : Draft) → IsOfTable table (replica_of_core core) → (made : MakesStep table given core draft) → OpenHaveCursors core.machine.rows → BringsCopyable made.event
 made-copyable table given core draft of_table made there =
-    event-copyable table core given made.event (copyable core.machine.rows (length table.jobs) of_table.stands.rows there) made.event_is
+    event-copyable table core given made.event (copyable core.machine.rows (table_size table) of_table.stands.rows there) made.event_is
 
 -- ---- The fault of a letter
 

@@ -1,6 +1,8 @@
 -- How a packet is heard: as a message, or as a part of one before it.
 use Rattle.std.specs.Prelude.{◌≡◌, ℕ, ◌+◌, ◌^◌, ◌<◌, ◌≤◌, nat_lt, Bool, true, false, List, [], Option, None, Some, length, take, ⊤}
 use Rattle.std.specs.List.{flat_map}
+use Rattle.launch_machine.specs.Clerk.{table_size}
+use Rattle.paxos_base.specs.declared.rows.TableSize.{TableSize}
 use Rattle.paxos_base.specs.Rows.{OpenHaveCursors, RowsStand}
 use Rattle.paxos_base.specs.declared.rows.JobRow.{JobRow}
 use Rattle.paxos_letter.specs.declared.packet.Packet.{Packet}
@@ -74,20 +76,20 @@ changes_asked (packet.Snap slot count) = 1
 changes_asked packet = 0
 
 -- the rows of a message are those of a table of so many jobs, each open one with a cursor, and their counts are within the bounds
-pub record AreRowsOf (jobs : ℕ) (rows : List JobRow) : Type 0 where
-  pub stand : RowsStand rows jobs
+pub record AreRowsOf (size : TableSize) (rows : List JobRow) : Type 0 where
+  pub stand : RowsStand rows size
   pub cursors : OpenHaveCursors rows
   pub counts : CountsBelow (2 ^ 31) rows
 
 -- a message that brings a launch table has a row for each job
-abbrev pub BringsRows : ℕ → Message → Type 0
-BringsRows jobs (Snap slot rows) = AreRowsOf jobs rows
-BringsRows jobs message = ⊤
+abbrev pub BringsRows : TableSize → Message → Type 0
+BringsRows size (Snap slot rows) = AreRowsOf size rows
+BringsRows size message = ⊤
 
 -- the same of a message, if there is one
-abbrev pub BringsRowsIn : ℕ → Option Message → Type 0
-BringsRowsIn jobs None = ⊤
-BringsRowsIn jobs (Some message) = BringsRows jobs message
+abbrev pub BringsRowsIn : TableSize → Option Message → Type 0
+BringsRowsIn size None = ⊤
+BringsRowsIn size (Some message) = BringsRows size message
 
 -- a replica hears a packet of a letter from another, behind which these follow: its numbers are within the bounds and its rows are
 -- those of the table of jobs, and the draft has no change of what is on the disk yet where the packet asks for one
@@ -95,8 +97,8 @@ pub record CanHear (table : Table) (core : Core) (draft : Draft) (from : ℕ) (p
   pub whole : IsWhole core
   pub prefix : learned.learned_prefix core.learner < 2 ^ 62
   pub member : from < core.members
-  pub small : is_small (length table.jobs) packet ≡ true
-  pub rows : BringsRowsIn (length table.jobs) (message_in packet rest)
+  pub small : is_small (table_size table) packet ≡ true
+  pub rows : BringsRowsIn (table_size table) (message_in packet rest)
   pub once : changes_of_draft draft.change + changes_asked packet ≤ 1
   pub steady : IsDraftSteady table core draft
   pub short : length draft.learnt.items < 2 ^ 31

@@ -1,6 +1,7 @@
 -- A step of a replica: what it is told, and what comes of it.
 use Rattle.std.specs.Prelude.{◌≡◌, ℕ, ◌<◌, ◌≤◌, ◌^◌, List, length, Option, None, Some, Result, Ok, Err, ⊤, ℤ}
 use Rattle.std.specs.Option.{option_map, option_to_list}
+use Rattle.launch_machine.specs.Clerk.{table_size}
 use Rattle.paxos_letter.specs.Letters.{letter_fault_of}
 use Rattle.paxos_letter.specs.declared.fault.LetterFault.{LetterFault}
 use Rattle.zone_minutes.specs.Window.{IsInWindow}
@@ -48,7 +49,7 @@ abbrev pub IsEventOf : Table → ReplicaState → Input → Event → Type 0
 IsEventOf table replica Campaign event = event ≡ told.Campaign
 IsEventOf table replica (Tick now) event = (plan : Plan) × IsAskedFor table replica now.0 plan × (event ≡ told.Tick now.0 plan)
 IsEventOf table replica (Hear bytes) event =
-    (from : ℕ) × (messages : List Message) × IsHeardAs replica.identity.members (length table.jobs) bytes.now from messages × (event ≡ told.Hear from messages)
+    (from : ℕ) × (messages : List Message) × IsHeardAs replica.identity.members (table_size table) bytes.now from messages × (event ≡ told.Hear from messages)
 IsEventOf table replica (Answer job at kind) event = event ≡ told.Answer job at kind replica.machine.rows
 
 -- a tick's clock reading is in the window
@@ -82,7 +83,7 @@ pub record MakesStep (table : Table) (input : Input) (core : Core) (draft : Draf
 pub record HearsLetter (table : Table) (bytes : List ℕ) (core : Core) (draft : Draft) : Type 0 where
   pub from : ℕ
   pub messages : List Message
-  pub heard : IsHeardAs core.members (length table.jobs) bytes from messages
+  pub heard : IsHeardAs core.members (table_size table) bytes from messages
   pub makes : Makes core (hear_all (own_identity core) from messages not_yet (state_of core)) draft
 
 -- a step is planned that does these acts

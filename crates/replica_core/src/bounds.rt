@@ -1,12 +1,13 @@
 //! The bounds that a replica counts with: a letter beyond them is heard as one without packets.
 ghost use Rattle.std.specs.Prelude.{◌≡◌, ◌↔◌, ◌^◌, IsTrue};
+ghost use Rattle.paxos_base.specs.declared.rows.TableSize.{TableSize};
 ghost use Rattle.step_spec.specs.Letters.{are_small, is_small, is_small_ballot, is_small_letter, is_small_row, is_small_slot};
 ghost use Rattle.replica_core.specs.Counts.{highest_count};
 ghost use Rattle.replica_core.specs.Replica.{IsSmall, IsWhole, state_of};
 ghost use Rattle.launch_machine.specs.Machine.{CountsBelow};
 
 use crate::parts::Core;
-use paxos_base::{Ballot, JobRow};
+use paxos_base::{Ballot, JobRow, TableSize};
 use paxos_letter::{Letter, Packet, Packets};
 
 fn is_small_ballot(ballot: &Ballot) -> bool
@@ -27,9 +28,9 @@ fn is_small_row(row: &JobRow) -> bool
     row.launched < 1 << 31 && row.voided < 1 << 31
 }
 
-// Whether what a packet carries is within the bounds, and a copy of rows has one for each job.
-fn is_small(jobs: u32, packet: &Packet) -> bool
-    ensures { result ≡ is_small jobs packet.now }
+// Whether what a packet carries is within the bounds, a copy of rows has as many as the table's size asks, and its rows fit.
+fn is_small(size: TableSize, packet: &Packet) -> bool
+    ensures { result ≡ is_small size packet.now }
 {
     match packet {
         Packet::Prepare { ballot, slot }
@@ -45,17 +46,19 @@ fn is_small(jobs: u32, packet: &Packet) -> bool
         } => is_small_ballot(ballot) && is_small_slot(*slot) && is_small_ballot(cast),
         Packet::Nack { ballot, promised } => is_small_ballot(ballot) && is_small_ballot(promised),
         Packet::Known { slot, .. } | Packet::AskFrom { slot } => is_small_slot(*slot),
-        Packet::Snap { slot, count } => is_small_slot(*slot) && *count == u64::from(jobs),
-        Packet::SnapRow { slot, row } => is_small_slot(*slot) && is_small_row(row),
+        Packet::Snap { slot, count } => is_small_slot(*slot) && *count == size.row_count(),
+        Packet::SnapRow { slot, row } => {
+            is_small_slot(*slot) && is_small_row(row) && row.fits_table(size)
+        }
     }
 }
 
 // Whether each packet is.
-fn are_small(jobs: u32, packets: Packets<'_>) -> bool
-    ensures { result ≡ are_small jobs packets.entry }
+fn are_small(size: TableSize, packets: Packets<'_>) -> bool
+    ensures { result ≡ are_small size packets.entry }
 {
     for packet in packets {
-        if !is_small(jobs, &packet) {
+        if !is_small(size, &packet) {
             return false;
         }
     }
@@ -63,10 +66,10 @@ fn are_small(jobs: u32, packets: Packets<'_>) -> bool
 }
 
 /// Whether a letter has fewer than 2^31 packets, each of them within the bounds.
-pub fn is_small_letter(jobs: u32, letter: &Letter<'_>) -> bool
-    ensures { result ≡ is_small_letter jobs letter.now.packets }
+pub fn is_small_letter(size: TableSize, letter: &Letter<'_>) -> bool
+    ensures { result ≡ is_small_letter size letter.now.packets }
 {
-    letter.count() < 1 << 31 && are_small(jobs, letter.packets())
+    letter.count() < 1 << 31 && are_small(size, letter.packets())
 }
 
 impl Core {

@@ -2,7 +2,7 @@
 ghost use Rattle.std.specs.Prelude.{◌≡◌, max, ◌+◌, ◌<◌, ◌≤◌, ◌^◌, length, List, Some, unwrap_or, IfOk, IfSome, OnOk};
 ghost use Rattle.std.specs.Option.{option_map};
 ghost use Rattle.acceptor_core.specs.Acceptor.{new_votes_in};
-ghost use Rattle.launch_machine.specs.Clerk.{Applies, AppliesAll};
+ghost use Rattle.launch_machine.specs.Clerk.{Applies, AppliesAll, table_size};
 ghost use Rattle.launch_machine.specs.Machine.{CanCount, StandsFor, CountsBelow};
 ghost use Rattle.learner_core.specs.Learner.{HasLearnedOne};
 ghost use Rattle.learner_core.specs.Learner as learned;
@@ -43,7 +43,7 @@ impl Core {
     ) -> Result<Core, OutOfMemory>
         requires me { me < members }
         requires few { members ≤ 7 }
-        requires rows { RowsStand durable.rows (length table.now.jobs) }
+        requires rows { RowsStand durable.rows (table_size table.now) }
         requires tried { durable.tried < 2 ^ 61 }
         ensures state { IfOk result (λ core. state_of core ≡ started me durable) }
         ensures me { IfOk result (λ core. core.me ≡ me) }
@@ -305,7 +305,7 @@ fn count_ended(machine: &Machine, table: &JobTable, entry: Entry) -> u32
 {
     match entry {
         Entry::End { job, .. } => {
-            if job < table.jobs() {
+            if job <= table.jobs() {
                 count_of(&machine.row(job))
             } else {
                 0
@@ -340,7 +340,7 @@ fn bind(term: &mut Term, votes: VoteList)
 
 /// The machine of a launch table that is one of the table of jobs.
 pub fn machine_of(alloc: Global, table: &JobTable, rows: &RowList) -> Result<Machine, OutOfMemory>
-    requires { RowsStand rows.now (length table.now.jobs) }
+    requires { RowsStand rows.now (table_size table.now) }
     ensures rows { IfOk result (λ machine. machine.rows ≡ rows.now) }
     ensures stands { IfOk result (λ machine. StandsFor table.now machine) }
     ensures cursors { IfOk result (λ machine. OpenHaveCursors machine.rows) }

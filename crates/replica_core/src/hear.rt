@@ -1,6 +1,7 @@
 //! How a replica hears a letter: its packets one after another, each by its line of the table.
 ghost use Rattle.std.specs.Prelude.{◌≡◌, ℕ, ◌+◌, ◌^◌, ◌<◌, ◌≤◌, Bool, true, OnOk, List, [], ◌∷◌, length, unwrap_or};
 ghost use Rattle.learner_core.specs.Learner.{learned_prefix};
+ghost use Rattle.launch_machine.specs.Clerk.{table_size};
 ghost use Rattle.paxos_letter.specs.Letters.{Spells};
 ghost use Rattle.term_core.specs.Term.{after_ballot};
 ghost use Rattle.step_spec.specs.Act.{Observe};
@@ -63,7 +64,7 @@ impl Core {
         requires whole { IsWhole self.now }
         requires small { IsSmall (state_of self.now) self.now.machine.rows }
         requires letter { (bytes : List ℕ) × Spells self.now.members letter.now.from letter.now.packets bytes }
-        requires bounds { is_small_letter (length table.now.jobs) letter.now.packets ≡ true }
+        requires bounds { is_small_letter (table_size table.now) letter.now.packets ≡ true }
         ensures makes { OnOk result (Makes self.now
             (hear_all (own_identity self.now) letter.now.from (messages_of letter.now.packets) not_yet (state_of self.now)) draft.new) }
         ensures ready { OnOk result (IsDraftReady table.now self.now draft.new) }

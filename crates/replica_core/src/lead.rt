@@ -348,7 +348,7 @@ impl Core {
         requires { StandsFor table.now self.now.machine }
         ensures { result ≡ is_open job at self.now.machine.rows }
     {
-        if job >= table.jobs() {
+        if job > table.jobs() {
             return false;
         }
         let row = self.machine.row(job);

@@ -2,6 +2,7 @@
 ghost use Rattle.std.specs.Prelude.{◌≡◌, ◌+◌, ◌-◌, ◌^◌, ◌<◌, ◌≤◌, ◌++◌, [], ◌∷◌, None, IfOk, OnOk, drop, length, take};
 ghost use Rattle.std.specs.List.{flat_map};
 ghost use Rattle.std.specs.Option.{option_copied};
+ghost use Rattle.launch_machine.specs.Clerk.{table_size};
 ghost use Rattle.paxos_base.specs.Rows.{OpenHaveCursors};
 ghost use Rattle.paxos_base.specs.Vote.{SlotsRise};
 ghost use Rattle.term_core.specs.Best.{best_of};
@@ -385,7 +386,7 @@ impl Core {
         requires change { draft.old.change ≡ None }
         requires prefix { learned_prefix self.now.learner < 2 ^ 62 }
         requires slot { slot < 2 ^ 62 }
-        requires rows { AreRowsOf (length table.now.jobs) (flat_map row_in (take count rest.now)) }
+        requires rows { AreRowsOf (table_size table.now) (flat_map row_in (take count rest.now)) }
         ensures does { OnOk result (GoesOnByActs self.now draft.old draft.new (on_snap slot (flat_map row_in (take count rest.now)))) }
         ensures steady { OnOk result (IsDraftSteady table.now self.now draft.old → IsDraftSteady table.now self.now draft.new) }
         ensures learnt { OnOk result (draft.new.learnt.items ≡ draft.old.learnt.items) }

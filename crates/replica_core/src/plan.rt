@@ -17,6 +17,7 @@ use crate::out::Effects;
 use crate::parts::Core;
 use cron_io::OutOfMemory;
 use due_set::JobTable;
+use launch_machine::table_size;
 use paxos_base::Delta;
 use paxos_letter::Letter;
 use replica_draft::{Draft, LetterList, write_letters};
@@ -66,7 +67,7 @@ impl Core {
         ensures fault { fault_told result ≡ letter_fault_of self.now.members bytes.now }
     {
         let letter = Letter::read(bytes, self.members)?;
-        if is_small_letter(table.jobs(), &letter) {
+        if is_small_letter(table_size(table), &letter) {
             self.hear_all(table, draft, &letter)?;
         }
         Ok(())

@@ -1,5 +1,6 @@
 ghost use Rattle.std.specs.Prelude.{◌≡◌, ◌↔◌, ◌<◌, ◌≤◌, ◌^◌, IsTrue, List, IfOk, OnErr, length};
 ghost use Rattle.std.specs.Option.{option_copied, option_to_list};
+ghost use Rattle.launch_machine.specs.Clerk.{table_size};
 ghost use Rattle.paxos_base.specs.Rows.{RowsStand};
 ghost use Rattle.step_spec.specs.Act.{Act};
 ghost use Rattle.step_spec.specs.Folds.{deltas_of};
@@ -60,7 +61,7 @@ impl Replica {
     ) -> Result<Replica, OutOfMemory>
         requires me { me < members }
         requires few { members ≤ 7 }
-        requires rows { RowsStand durable.rows (length table.now.jobs) }
+        requires rows { RowsStand durable.rows (table_size table.now) }
         requires tried { durable.tried < 2 ^ 61 }
         ensures identity { IfOk result (λ replica. replica.identity ≡ record { me = me; members = members }) }
         ensures state { IfOk result (λ replica. replica.state ≡ started me durable) }

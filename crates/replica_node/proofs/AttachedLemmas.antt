@@ -4,6 +4,7 @@ use Rattle.std.specs.Prelude.{IfSome}
 use Rattle.std.specs.List.{filter_map, last_or}
 use Rattle.std.proofs.lemmas.List.Elements.{All-weaker}
 use Rattle.std.proofs.lemmas.Option.{none-some}
+use Rattle.paxos_base.specs.declared.rows.TableSize.{TableSize}
 use Rattle.paxos_base.specs.Durable.{after_delta}
 use Rattle.paxos_base.specs.Rows.{RowsStand}
 use Rattle.paxos_base.specs.declared.durable.Delta.{Delta}
@@ -30,11 +31,11 @@ same_rows kept (PromisedDelta ballot) item is = refl
 same_rows kept (VotedDelta vote) item is = refl
 same_rows kept (BaseDelta slot rows) item is = absurd (none-some item is)
 
-log_rows : (jobs : ℕ) (kept last : Durable) (items : List Record) → IsChangeLog jobs kept items last → last.rows ≡ kept.rows
-log_rows jobs kept last [] log = ap (λ (k : Durable). k.rows) (IsChangeLog-empty jobs kept last log)
-log_rows jobs kept last (item ∷ items) log =
-    let parts = IsChangeLog-uncons jobs kept last item items log in
-    log_rows jobs (after_delta parts.change kept) last items parts.rest ∙ same_rows kept parts.change item parts.is_record
+log_rows : (size : TableSize) (kept last : Durable) (items : List Record) → IsChangeLog size kept items last → last.rows ≡ kept.rows
+log_rows size kept last [] log = ap (λ (k : Durable). k.rows) (IsChangeLog-empty size kept last log)
+log_rows size kept last (item ∷ items) log =
+    let parts = IsChangeLog-uncons size kept last item items log in
+    log_rows size (after_delta parts.change kept) last items parts.rest ∙ same_rows kept parts.change item parts.is_record
 
 -- ---- the replica's own ballot: it is written in eight bytes
 
@@ -68,19 +69,19 @@ votes_up_to kept own sound =
 -- ---- all of it
 
 -- what a replica asks of what it starts with
-pub record IsFitToStart (jobs : ℕ) (kept : Durable) : Type 0 where
-  pub rows : RowsStand kept.rows jobs
+pub record IsFitToStart (size : TableSize) (kept : Durable) : Type 0 where
+  pub rows : RowsStand kept.rows size
   pub tried : kept.tried < 2 ^ 61
   pub votes : AreUpTo (promised_in kept) kept.votes
 
-pub fit_to_start : (jobs : ℕ) (bodies : List (List ℕ)) (kept : Durable) (own : Option ℕ) → StandFor jobs bodies kept own → IsFitToStart jobs kept
-fit_to_start jobs bodies kept own stand =
-    let sound = StandFor-sound jobs bodies kept own stand in
+pub fit_to_start : (size : TableSize) (bodies : List (List ℕ)) (kept : Durable) (own : Option ℕ) → StandFor size bodies kept own → IsFitToStart size kept
+fit_to_start size bodies kept own stand =
+    let sound = StandFor-sound size bodies kept own stand in
     let fits : Fits own = subst Fits (sym stand.own_is) (own_fits None bodies stand.items stand.are_records tt) in
     let round : own_round own < 2 ^ 61 = round_fits own fits in
     let same : kept.tried ≡ own_round own = sound.round in
     record {
-      rows = stands_rows jobs stand.items kept stand.stands;
+      rows = stands_rows size stand.items kept stand.stands;
       tried = omega (arith, round, same);
       votes = votes_up_to kept own sound;
     }

@@ -2,6 +2,7 @@
 use Rattle.std.proofs.Common.{◌≡◌, ◌⊎◌, ℕ, ◌<◌, List, Option, None, Some, refl, sym, ap, ◌∙◌, subst, inl, inr, arith}
 use Rattle.std.proofs.lemmas.Bool.{eq-eqb}
 use Rattle.std.proofs.lemmas.Option.{none-some}
+use Rattle.paxos_base.specs.declared.rows.TableSize.{TableSize}
 use Rattle.paxos_base.specs.Ballot.{IsAbove}
 use Rattle.paxos_base.specs.Durable.{after_delta}
 use Rattle.paxos_base.specs.Vote.{SlotsRise, put_vote, vote_at}
@@ -35,20 +36,20 @@ voted_same : (vote : Vote) (kept : Durable) → kept.promised ≡ Some vote.ball
 voted_same vote kept promised votes = rw (votes, sym promised) refl
 
 -- where the state before a change shows it, the change leaves that as it is
-pub after_same : (jobs : ℕ) (kept : Durable) (change : Delta) → SlotsRise kept.votes → ChangeMayFollow jobs kept change → ShowsChange change kept → after_delta change kept ≡ kept
+pub after_same : (size : TableSize) (kept : Durable) (change : Delta) → SlotsRise kept.votes → ChangeMayFollow size kept change → ShowsChange change kept → after_delta change kept ≡ kept
 unfolding after_delta
-after_same jobs kept (Tried ballot) rise follows shows = let higher = follows.0 in absurd (omega (arith, higher, shows))
-after_same jobs kept (Promised ballot) rise follows shows = absurd (not_above ballot kept.promised follows shows)
-after_same jobs kept (Voted vote) rise follows shows = voted_same vote kept shows.0 (put_same vote kept.votes rise shows.1)
-after_same jobs kept (Base slot rows) rise follows shows = let higher = follows.0 in absurd (omega (arith, higher, shows))
+after_same size kept (Tried ballot) rise follows shows = let higher = follows.0 in absurd (omega (arith, higher, shows))
+after_same size kept (Promised ballot) rise follows shows = absurd (not_above ballot kept.promised follows shows)
+after_same size kept (Voted vote) rise follows shows = voted_same vote kept shows.0 (put_same vote kept.votes rise shows.1)
+after_same size kept (Base slot rows) rise follows shows = let higher = follows.0 in absurd (omega (arith, higher, shows))
 
-module _ (jobs : ℕ) (before found : Durable) (change : Delta) (rise : SlotsRise found.votes) (follows : ChangeMayFollow jobs before change) (either : (found ≡ before) ⊎ (found ≡ after_delta change before)) where
+module _ (size : TableSize) (before found : Durable) (change : Delta) (rise : SlotsRise found.votes) (follows : ChangeMayFollow size before change) (either : (found ≡ before) ⊎ (found ≡ after_delta change before)) where
   -- it is the state after the change where it shows that
   pub is_after : ShowsChange change found → found ≡ after_delta change before
   is_after shows =
       elim either [
         | inl was ↦
-            was ∙ sym (after_same jobs before change (subst (λ (k : Durable). SlotsRise k.votes) was rise) follows (subst (ShowsChange change) was shows))
+            was ∙ sym (after_same size before change (subst (λ (k : Durable). SlotsRise k.votes) was rise) follows (subst (ShowsChange change) was shows))
         | inr is ↦ is
       ]
 

@@ -3,6 +3,7 @@ use Rattle.std.proofs.Common.{◌≡◌, ◌⊎◌, ℕ, ◌<◌, ◌≤◌, ◌
 use Rattle.std.specs.Prelude.{IsSome, IsSomeAnd}
 use Rattle.std.proofs.lemmas.Bool.{cases_order, eq-eqb, ne_eqb, cases_lt}
 use Rattle.std.proofs.lemmas.Nat.{mod_below}
+use Rattle.paxos_base.specs.declared.rows.TableSize.{TableSize}
 use Rattle.disk_model.specs.declared.armed.Arm.{Arm}
 use Rattle.disk_model.specs.declared.fault.DiskFault.TheVariants as Disk
 use Rattle.disk_model.specs.declared.fault.FileNo.{FileNo}
@@ -26,7 +27,7 @@ use Rattle.replica_store.specs.Faults as stored
 use Rattle.replica_store.specs.Files.{other_area, selected, selected_by}
 use Rattle.replica_store.specs.Kept.{IsReady, Shows, StopsInSave}
 use Rattle.replica_store.specs.Made.{area_after, attach_calls, save_calls}
-use Rattle.replica_store.specs.Store.{IsStoreAtRest, area_of, jobs_of_store, records_of}
+use Rattle.replica_store.specs.Store.{IsStoreAtRest, area_of, size_of_store, records_of}
 use Rattle.replica_store.specs.declared.fault.StoreFault.{StoreFault}
 use Rattle.replica_store.specs.declared.fault.StoreFault.TheVariants as Store
 use Rattle.replica_store.specs.declared.store.Store.{Store as AStore}
@@ -41,14 +42,14 @@ use Rattle.replica_node.specs.declared.node.Node.{Node as ANode}
 
 -- ---- a save that was stopped
 
-not_kept : (jobs few : ℕ) (P : ℕ → Type 0) (area : FileNo) (kept : Durable) (arm : Arm) (image : Image) → (arm.left < few → StandsIn jobs area kept image) → (few ≤ arm.left → (Shows P arm.image → ⊥) → StandsIn jobs area kept image)
-    → ((few ≤ arm.left) × Shows P arm.image → ⊥) → (arm.left < few) ⊎ (few ≤ arm.left) → StandsIn jobs area kept image
-not_kept jobs few P area kept arm image early lost none (inl less) = early less
-not_kept jobs few P area kept arm image early lost none (inr more) = lost more (λ shows. none (more, shows))
+not_kept : (size : TableSize) (few : ℕ) (P : ℕ → Type 0) (area : FileNo) (kept : Durable) (arm : Arm) (image : Image) → (arm.left < few → StandsIn size area kept image) → (few ≤ arm.left → (Shows P arm.image → ⊥) → StandsIn size area kept image)
+    → ((few ≤ arm.left) × Shows P arm.image → ⊥) → (arm.left < few) ⊎ (few ≤ arm.left) → StandsIn size area kept image
+not_kept size few P area kept arm image early lost none (inl less) = early less
+not_kept size few P area kept arm image early lost none (inr more) = lost more (λ shows. none (more, shows))
 
-module _ (jobs : ℕ) (area : FileNo) (kept : Durable) (own : Option ℕ) (arm : Arm) (old new : Told) where
-  by_arm : (change : Delta) → (KeepsChange area change arm → StandsIn jobs (area_after change area) (after_delta change kept) (image_left new)) → ((KeepsChange area change arm → ⊥) → StandsIn jobs area kept (image_left new))
-      → IsKeptByArm jobs area kept change arm (image_left new)
+module _ (size : TableSize) (area : FileNo) (kept : Durable) (own : Option ℕ) (arm : Arm) (old new : Told) where
+  by_arm : (change : Delta) → (KeepsChange area change arm → StandsIn size (area_after change area) (after_delta change kept) (image_left new)) → ((KeepsChange area change arm → ⊥) → StandsIn size area kept (image_left new))
+      → IsKeptByArm size area kept change arm (image_left new)
   by_arm change saved lost =
       record {
         saved = λ keeps. (saved keeps).stand;
@@ -57,24 +58,24 @@ module _ (jobs : ℕ) (area : FileNo) (kept : Durable) (own : Option ℕ) (arm :
         lost_area = λ none. (lost none).selects;
       }
 
-  record_by_arm : (change : Delta) (item : Record) → StopsInSave jobs area kept own change arm old new → delta_record change ≡ Some item → ((2 ≤ arm.left) × Shows (λ byte. byte ≡ 1) arm.image → ⊥) → StandsIn jobs area kept (image_left new)
+  record_by_arm : (change : Delta) (item : Record) → StopsInSave size area kept own change arm old new → delta_record change ≡ Some item → ((2 ≤ arm.left) × Shows (λ byte. byte ≡ 1) arm.image → ⊥) → StandsIn size area kept (image_left new)
   record_by_arm change item save is none =
-      not_kept jobs 2 (λ byte. byte ≡ 1) area kept arm (image_left new) (record_early jobs area kept own change item arm old new save is) (record_lost jobs area kept own change item arm old new save is) none (cases_lt arm.left 2)
+      not_kept size 2 (λ byte. byte ≡ 1) area kept arm (image_left new) (record_early size area kept own change item arm old new save is) (record_lost size area kept own change item arm old new save is) none (cases_lt arm.left 2)
 
-  pub kept_by_arm : (change : Delta) → StopsInSave jobs area kept own change arm old new → ((item : Record) → delta_record change ≡ Some item → IsRecord (record_bytes item) item)
-      → ((slot : ℕ) (rows : List JobRow) → change ≡ Base slot rows → AreRecords (map record_bytes (base_records kept own slot rows)) (base_records kept own slot rows)) → IsKeptByArm jobs area kept change arm (image_left new)
+  pub kept_by_arm : (change : Delta) → StopsInSave size area kept own change arm old new → ((item : Record) → delta_record change ≡ Some item → IsRecord (record_bytes item) item)
+      → ((slot : ℕ) (rows : List JobRow) → change ≡ Base slot rows → AreRecords (map record_bytes (base_records kept own slot rows)) (base_records kept own slot rows)) → IsKeptByArm size area kept change arm (image_left new)
   kept_by_arm (Tried ballot) save spelled base =
-      by_arm (Tried ballot) (λ keeps. record_kept jobs area kept own (Tried ballot) (Item.Tried ballot) arm old new save refl (spelled (Item.Tried ballot) refl) keeps.0 keeps.1)
+      by_arm (Tried ballot) (λ keeps. record_kept size area kept own (Tried ballot) (Item.Tried ballot) arm old new save refl (spelled (Item.Tried ballot) refl) keeps.0 keeps.1)
       (record_by_arm (Tried ballot) (Item.Tried ballot) save refl)
   kept_by_arm (Promised ballot) save spelled base =
-      by_arm (Promised ballot) (λ keeps. record_kept jobs area kept own (Promised ballot) (Item.Promised ballot) arm old new save refl (spelled (Item.Promised ballot) refl) keeps.0 keeps.1)
+      by_arm (Promised ballot) (λ keeps. record_kept size area kept own (Promised ballot) (Item.Promised ballot) arm old new save refl (spelled (Item.Promised ballot) refl) keeps.0 keeps.1)
       (record_by_arm (Promised ballot) (Item.Promised ballot) save refl)
   kept_by_arm (Voted vote) save spelled base =
-      by_arm (Voted vote) (λ keeps. record_kept jobs area kept own (Voted vote) (Item.Voted vote) arm old new save refl (spelled (Item.Voted vote) refl) keeps.0 keeps.1)
+      by_arm (Voted vote) (λ keeps. record_kept size area kept own (Voted vote) (Item.Voted vote) arm old new save refl (spelled (Item.Voted vote) refl) keeps.0 keeps.1)
       (record_by_arm (Voted vote) (Item.Voted vote) save refl)
   kept_by_arm (Base slot rows) save spelled base =
-      by_arm (Base slot rows) (λ keeps. base_kept jobs area kept own slot rows arm old new save (base slot rows refl) keeps.0 keeps.1)
-      (λ none. not_kept jobs 3 (λ byte. selected_by byte ≡ other_area area) area kept arm (image_left new) (base_early jobs area kept own slot rows arm old new save) (base_lost jobs area kept own slot rows arm old new save) none (cases_lt arm.left 3))
+      by_arm (Base slot rows) (λ keeps. base_kept size area kept own slot rows arm old new save (base slot rows refl) keeps.0 keeps.1)
+      (λ none. not_kept size 3 (λ byte. selected_by byte ≡ other_area area) area kept arm (image_left new) (base_early size area kept own slot rows arm old new save) (base_lost size area kept own slot rows arm old new save) none (cases_lt arm.left 3))
 
 -- ---- between two calls
 
@@ -96,8 +97,8 @@ module _ {D : Type 0} (view : DiskView D) (disk : D) (store : AStore) (kept : Du
   tells_saved after (Some old) None done clean area tells = absurd tells
   tells_saved after (Some old) (Some new) done clean area tells = subst (λ (file : FileNo). IsAreaSynced file new) (sym area) (saved_synced old new (done old refl) clean tells.all)
 
-  stops_in_save : (arm : Arm) (old new : Told) → old.done ≡ view.seen disk → IsAreaSynced (area_of store) old → old.arm ≡ Some arm → StandFor (jobs_of_store store) (records_of store) kept own → ChangeMayFollow (jobs_of_store store) kept change
-      → MadeCalls {T = Unit} stored.of_disk calls (Err Store.Stopped) old new → StopsInSave (jobs_of_store store) (area_of store) kept own change arm old new
+  stops_in_save : (arm : Arm) (old new : Told) → old.done ≡ view.seen disk → IsAreaSynced (area_of store) old → old.arm ≡ Some arm → StandFor (size_of_store store) (records_of store) kept own → ChangeMayFollow (size_of_store store) kept change
+      → MadeCalls {T = Unit} stored.of_disk calls (Err Store.Stopped) old new → StopsInSave (size_of_store store) (area_of store) kept own change arm old new
   stops_in_save arm old new done synced armed stand follows made =
       record {
         records = records_of store;
@@ -109,15 +110,15 @@ module _ {D : Type 0} (view : DiskView D) (disk : D) (store : AStore) (kept : Du
       }
 
   pub tells_by_arm : (arm : Arm) (old new : Option Told) → ((now : Told) → old ≡ Some now → now.done ≡ view.seen disk) → IsSomeAnd old (IsAreaSynced (area_of store)) → IsSomeAnd old (λ now. now.arm ≡ Some arm)
-      → StandFor (jobs_of_store store) (records_of store) kept own → ChangeMayFollow (jobs_of_store store) kept change → (fault : StoreFault) → fault ≡ Store.Stopped → TellsThen (MadeCalls {T = Unit} stored.of_disk calls (Err fault)) old new
+      → StandFor (size_of_store store) (records_of store) kept own → ChangeMayFollow (size_of_store store) kept change → (fault : StoreFault) → fault ≡ Store.Stopped → TellsThen (MadeCalls {T = Unit} stored.of_disk calls (Err fault)) old new
       → ((item : Record) → delta_record change ≡ Some item → IsRecord (record_bytes item) item)
       → ((slot : ℕ) (rows : List JobRow) → change ≡ Base slot rows → AreRecords (map record_bytes (base_records kept own slot rows)) (base_records kept own slot rows))
-      → LeavesByArm (jobs_of_store store) (area_of store) kept change arm new
+      → LeavesByArm (size_of_store store) (area_of store) kept change arm new
   tells_by_arm arm None new done clean armed stand follows fault is tells spelled base = absurd clean
   tells_by_arm arm (Some old) None done clean armed stand follows fault is tells spelled base = absurd tells
   tells_by_arm arm (Some old) (Some new) done clean armed stand follows fault is tells spelled base =
       let made : MadeCalls {T = Unit} stored.of_disk calls (Err Store.Stopped) old new = subst (λ (f : StoreFault). MadeCalls {T = Unit} stored.of_disk calls (Err f) old new) is tells in
-      kept_by_arm (jobs_of_store store) (area_of store) kept own arm old new change (stops_in_save arm old new (done old refl) clean armed stand follows made) spelled base
+      kept_by_arm (size_of_store store) (area_of store) kept own arm old new change (stops_in_save arm old new (done old refl) clean armed stand follows made) spelled base
 
 -- ---- an attach
 

@@ -1,6 +1,8 @@
 -- A node between two calls, and what a stop leaves within one.
-use Rattle.std.proofs.Common.{◌≡◌, ℕ, ◌<◌, ◌≤◌, Option, length, refl, sym, ap, ◌∙◌, subst, inl, inr, arith}
+use Rattle.std.proofs.Common.{◌≡◌, ℕ, ◌<◌, ◌≤◌, Option, refl, sym, ap, ◌∙◌, subst, inl, inr, arith}
 use Rattle.std.specs.Option.{option_to_list}
+use Rattle.launch_machine.specs.Clerk.{table_size}
+use Rattle.paxos_base.specs.declared.rows.TableSize.{TableSize}
 use Rattle.disk_model.specs.Images.{Image}
 use Rattle.disk_model.specs.View.{DiskView, LeavesOnly}
 use Rattle.due_set.specs.Table.{Table}
@@ -20,7 +22,7 @@ use Rattle.replica_core.proofs.OutcomeLemmas.{one_event}
 use Rattle.replica_core.specs.declared.out.StepOut.{StepOut}
 use Rattle.replica_core.specs.declared.replica.Planned.{Planned}
 use Rattle.replica_store.specs.Files.{FilesStand, FilesStandForEither, IsRecoverable}
-use Rattle.replica_store.specs.Store.{IsStoreAtRest, StoreKeeps, jobs_of_store}
+use Rattle.replica_store.specs.Store.{IsStoreAtRest, StoreKeeps, size_of_store}
 use Rattle.replica_store.proofs.FileLemmas.{recoverable_stands}
 use Rattle.replica_store.proofs.SaveLemmas.{rests_recoverable}
 use Rattle.replica_node.specs.Node.{FilesStandAround, IsNodeAtRest, IsRecoverableAround, LeadsTo, disk_of, replica_of, runs_in, store_of}
@@ -34,17 +36,17 @@ few_members me members member few = omega (arith, member, few)
 
 -- a replica can go on from the disk with what it keeps
 pub recoverable_at_rest : {D : Type 0} (view : DiskView D) (table : Table) (node : Node D) → IsNodeAtRest view table node → view.honest (disk_of node)
-    → IsRecoverable (length table.jobs) (replica_of node).state.kept (replica_of node).state.kept (view.may_leave (disk_of node))
+    → IsRecoverable (table_size table) (replica_of node).state.kept (replica_of node).state.kept (view.may_leave (disk_of node))
 recoverable_at_rest view table node rest is =
     let kept = (replica_of node).state.kept in
-    subst (λ (jobs : ℕ). IsRecoverable jobs kept kept (view.may_leave (disk_of node))) rest.jobs (rests_recoverable view (disk_of node) (store_of node) rest.rests kept rest.keeps is)
+    subst (λ (size : TableSize). IsRecoverable size kept kept (view.may_leave (disk_of node))) rest.size (rests_recoverable view (disk_of node) (store_of node) rest.rests kept rest.keeps is)
 
 -- whatever a stop leaves between two calls stands for what the replica keeps
 pub stands_at_rest : {D : Type 0} (view : DiskView D) (table : Table) (node : Node D) → IsNodeAtRest view table node → view.honest (disk_of node) → (image : Image)
-    → view.may_leave (disk_of node) image → FilesStand (length table.jobs) (replica_of node).state.kept image
+    → view.may_leave (disk_of node) image → FilesStand (table_size table) (replica_of node).state.kept image
 stands_at_rest view table node rest is image left =
     let kept = (replica_of node).state.kept in
-    elim (recoverable_stands (length table.jobs) kept kept (view.may_leave (disk_of node)) (recoverable_at_rest view table node rest is) image left) [ inl before ↦ before | inr after ↦ after ]
+    elim (recoverable_stands (table_size table) kept kept (view.may_leave (disk_of node)) (recoverable_at_rest view table node rest is) image left) [ inl before ↦ before | inr after ↦ after ]
 
 pub of_table_alike : (table : Table) (old now : ReplicaState) → IsSameReplica now old → IsOfTable table old → IsOfTable table now
 of_table_alike table old now alike of_table =
@@ -55,9 +57,9 @@ of_table_alike table old now alike of_table =
 
 -- a node whose replica is alike, and whose store keeps the same, is at rest as it was
 pub at_rest_still : {D : Type 0} (view : DiskView D) (table : Table) (old new : Node D) → IsNodeAtRest view table old → IsSameReplica (replica_of new) (replica_of old)
-    → runs_in new ≡ runs_in old → jobs_of_store (store_of new) ≡ jobs_of_store (store_of old) → IsStoreAtRest view (disk_of new) (store_of new) → StoreKeeps (store_of new) (replica_of new).state.kept
+    → runs_in new ≡ runs_in old → size_of_store (store_of new) ≡ size_of_store (store_of old) → IsStoreAtRest view (disk_of new) (store_of new) → StoreKeeps (store_of new) (replica_of new).state.kept
     → IsNodeAtRest view table new
-at_rest_still view table old new rest alike runs jobs rests keeps =
+at_rest_still view table old new rest alike runs size rests keeps =
     record {
       runs = runs ∙ rest.runs;
       member = rw alike.identity rest.member;
@@ -65,7 +67,7 @@ at_rest_still view table old new rest alike runs jobs rests keeps =
       of_table = of_table_alike table (replica_of old) (replica_of new) alike rest.of_table;
       coherent = rw (alike.identity, alike.state) rest.coherent;
       rests = rests;
-      jobs = jobs ∙ rest.jobs;
+      size = size ∙ rest.size;
       keeps = keeps;
     }
 
@@ -78,9 +80,9 @@ step_coherent table input old new event few coherent of_table is identity state 
 -- a node that has saved a change and taken its step is at rest
 pub at_rest_after : {D : Type 0} (view : DiskView D) (table : Table) (input : Input) (old new : Node D) (now : ReplicaState) (planned : Planned) (delta : Option Delta) (out : StepOut)
     → IsNodeAtRest view table old → IsSameReplica now (replica_of old) → (plans : PlansStep table input (replica_of old) planned) → Takes table now (replica_of new) (step (replica_of old).identity plans.event (replica_of old).state) out
-    → deltas_of (step (replica_of old).identity plans.event (replica_of old).state) ≡ option_to_list delta → runs_in new ≡ runs_in old → jobs_of_store (store_of new) ≡ jobs_of_store (store_of old)
+    → deltas_of (step (replica_of old).identity plans.event (replica_of old).state) ≡ option_to_list delta → runs_in new ≡ runs_in old → size_of_store (store_of new) ≡ size_of_store (store_of old)
     → IsStoreAtRest view (disk_of new) (store_of new) → StoreKeeps (store_of new) (kept_after delta now.state.kept) → IsNodeAtRest view table new
-at_rest_after view table input old new now planned delta out rest alike plans takes told runs jobs rests keeps =
+at_rest_after view table input old new now planned delta out rest alike plans takes told runs size rests keeps =
     let acts = step (replica_of old).identity plans.event (replica_of old).state in
     let identity : (replica_of new).identity ≡ (replica_of old).identity = takes.identity ∙ alike.identity in
     let state : (replica_of new).state ≡ after_acts acts (replica_of old).state = takes.state ∙ ap (after_acts acts) alike.state in
@@ -92,7 +94,7 @@ at_rest_after view table input old new now planned delta out rest alike plans ta
       of_table = takes.of_table;
       coherent = step_coherent table input (replica_of old) (replica_of new) plans.event (few_members (replica_of old).identity.me (replica_of old).identity.members rest.member rest.few) rest.coherent rest.of_table plans.event_is identity state;
       rests = rests;
-      jobs = jobs ∙ rest.jobs;
+      size = size ∙ rest.size;
       keeps = subst (StoreKeeps (store_of new)) kept keeps;
     }
 
@@ -108,25 +110,25 @@ leaves_weaker view old new P Q weaker leaves =
     }
 
 -- the state before a change or after it is that before the step or after it
-pub either_around : (table : Table) (input : Input) (old now : ReplicaState) (jobs : ℕ) (delta : Option Delta) (plans_event : Event) → IsEventOf table old input plans_event → IsSameReplica now old → jobs ≡ length table.jobs
-    → deltas_of (step old.identity plans_event old.state) ≡ option_to_list delta → (image : Image) → FilesStandForEither jobs now.state.kept (kept_after delta now.state.kept) image → FilesStandAround table input old image
-either_around table input old now jobs delta event is alike same told image (inl before) =
-    inl (subst (λ (state : State). FilesStand (length table.jobs) state.kept image) alike.state (subst (λ (n : ℕ). FilesStand n now.state.kept image) same before))
-either_around table input old now jobs delta event is alike same told image (inr after) =
+pub either_around : (table : Table) (input : Input) (old now : ReplicaState) (size : TableSize) (delta : Option Delta) (plans_event : Event) → IsEventOf table old input plans_event → IsSameReplica now old → size ≡ table_size table
+    → deltas_of (step old.identity plans_event old.state) ≡ option_to_list delta → (image : Image) → FilesStandForEither size now.state.kept (kept_after delta now.state.kept) image → FilesStandAround table input old image
+either_around table input old now size delta event is alike same told image (inl before) =
+    inl (subst (λ (state : State). FilesStand (table_size table) state.kept image) alike.state (subst (λ (n : TableSize). FilesStand n now.state.kept image) same before))
+either_around table input old now size delta event is alike same told image (inr after) =
     let acts = step old.identity event old.state in
     let kept : kept_after delta now.state.kept ≡ (after_acts acts old.state).kept = ap (λ (state : State). kept_after delta state.kept) alike.state ∙ sym (kept_by_change acts old.state delta told) in
-    inr (after_acts acts old.state, record { event = event; event_is = is; after_is = refl }, subst (λ (k : Durable). FilesStand (length table.jobs) k image) kept (subst (λ (n : ℕ). FilesStand n (kept_after delta now.state.kept) image) same after))
+    inr (after_acts acts old.state, record { event = event; event_is = is; after_is = refl }, subst (λ (k : Durable). FilesStand (table_size table) k image) kept (subst (λ (n : TableSize). FilesStand n (kept_after delta now.state.kept) image) same after))
 
-pub recoverable_around : (table : Table) (input : Input) (old now : ReplicaState) (jobs : ℕ) (delta : Option Delta) (event : Event) (may_leave : Image → Type 0) → IsEventOf table old input event → IsSameReplica now old → jobs ≡ length table.jobs
-    → deltas_of (step old.identity event old.state) ≡ option_to_list delta → IsRecoverable jobs now.state.kept (kept_after delta now.state.kept) may_leave → IsRecoverableAround table input old may_leave
-recoverable_around table input old now jobs delta event may_leave is alike same told recoverable =
+pub recoverable_around : (table : Table) (input : Input) (old now : ReplicaState) (size : TableSize) (delta : Option Delta) (event : Event) (may_leave : Image → Type 0) → IsEventOf table old input event → IsSameReplica now old → size ≡ table_size table
+    → deltas_of (step old.identity event old.state) ≡ option_to_list delta → IsRecoverable size now.state.kept (kept_after delta now.state.kept) may_leave → IsRecoverableAround table input old may_leave
+recoverable_around table input old now size delta event may_leave is alike same told recoverable =
     let acts = step old.identity event old.state in
     let kept : kept_after delta now.state.kept ≡ (after_acts acts old.state).kept = ap (λ (state : State). kept_after delta state.kept) alike.state ∙ sym (kept_by_change acts old.state delta told) in
     let before : now.state.kept ≡ old.state.kept = ap (λ (state : State). state.kept) alike.state in (
       after_acts acts old.state,
       record { event = event; event_is = is; after_is = refl },
-      subst (λ (k : Durable). IsRecoverable (length table.jobs) old.state.kept k may_leave) kept
-          (subst (λ (k : Durable). IsRecoverable (length table.jobs) k (kept_after delta now.state.kept) may_leave) before (subst (λ (n : ℕ). IsRecoverable n now.state.kept (kept_after delta now.state.kept) may_leave) same recoverable)),
+      subst (λ (k : Durable). IsRecoverable (table_size table) old.state.kept k may_leave) kept
+          (subst (λ (k : Durable). IsRecoverable (table_size table) k (kept_after delta now.state.kept) may_leave) before (subst (λ (n : TableSize). IsRecoverable n now.state.kept (kept_after delta now.state.kept) may_leave) same recoverable)),
     )
 
 -- ---- the state that a step leads to

@@ -1,6 +1,7 @@
 -- A step that is planned, saved and taken.
-use Rattle.std.proofs.Common.{◌≡◌, ℕ, ◌<◌, List, [], ◌∷◌, Option, None, Some, length, refl, sym, ap, ◌∙◌, subst, arith}
+use Rattle.std.proofs.Common.{◌≡◌, ℕ, ◌<◌, List, [], ◌∷◌, Option, None, Some, refl, sym, ap, ◌∙◌, subst, arith}
 use Rattle.std.specs.Option.{option_to_list}
+use Rattle.launch_machine.specs.Clerk.{table_size}
 use Rattle.due_set.specs.Table.{Table}
 use Rattle.launch_machine.specs.Machine.{Launches}
 use Rattle.paxos_base.specs.Rows.{RowsStand}
@@ -56,18 +57,18 @@ event_planned table replica (Answer job at kind) event of_table is = subst (IsPl
 first_is : (one other : Delta) → one ∷ [] ≡ other ∷ [] → one ≡ other
 first_is one other is = cc
 
-base_of_change : (table : Table) (machine : Launches) (base prefix : ℕ) (kept : Durable) (made : Change) → kept.base ≡ base → IsSupplied table machine base prefix (Some made) → BaseMayFollow (length table.jobs) kept (delta_of made)
+base_of_change : (table : Table) (machine : Launches) (base prefix : ℕ) (kept : Durable) (made : Change) → kept.base ≡ base → IsSupplied table machine base prefix (Some made) → BaseMayFollow (table_size table) kept (delta_of made)
 base_of_change table machine base prefix kept (change.Tried ballot) is supplied = tt
 base_of_change table machine base prefix kept (change.Promised ballot) is supplied = tt
 base_of_change table machine base prefix kept (change.Voted vote) is supplied = tt
 base_of_change table machine base prefix kept (change.Rebased rebased) is supplied =
     let past = supplied.past in
-    (omega (arith, is, past), subst (λ (rows : List JobRow). RowsStand rows (length table.jobs)) supplied.rows supplied.stands.rows)
+    (omega (arith, is, past), subst (λ (rows : List JobRow). RowsStand rows (table_size table)) supplied.rows supplied.stands.rows)
 
-base_of_made : (table : Table) (machine : Launches) (base prefix : ℕ) (kept : Durable) (made : Option Change) (delta : Delta) → kept.base ≡ base → IsSupplied table machine base prefix made → deltas_in made ≡ delta ∷ [] → BaseMayFollow (length table.jobs) kept delta
+base_of_made : (table : Table) (machine : Launches) (base prefix : ℕ) (kept : Durable) (made : Option Change) (delta : Delta) → kept.base ≡ base → IsSupplied table machine base prefix made → deltas_in made ≡ delta ∷ [] → BaseMayFollow (table_size table) kept delta
 base_of_made table machine base prefix kept None delta is supplied some = absurd (cc some)
 base_of_made table machine base prefix kept (Some made) delta is supplied some =
-    subst (BaseMayFollow (length table.jobs) kept) (first_is (delta_of made) delta some) (base_of_change table machine base prefix kept made is supplied)
+    subst (BaseMayFollow (table_size table) kept) (first_is (delta_of made) delta some) (base_of_change table machine base prefix kept made is supplied)
 
 -- a step's plan, where it is a replica's, is also that of one alike
 pub plans_alike : (old now : ReplicaState) (acts : List Act) (planned : Planned) → IsSameReplica now old → Plans old acts planned → Plans now acts planned
@@ -85,17 +86,17 @@ drafted_deltas replica acts planned plans = ap (λ (desk : Desk). desk.deltas) p
 -- the change of a planned step may follow what the replica keeps
 pub change_follows : (table : Table) (input : Input) (old now : ReplicaState) (planned : Planned) (delta : Option Delta) (change : Delta) → old.identity.me < 8 → IsCoherent old.identity old.state → IsOfTable table old
     → IsSameReplica now old → (plans : PlansStep table input old planned) → CanTake table now planned → deltas_of (step old.identity plans.event old.state) ≡ option_to_list delta → delta ≡ Some change
-    → ChangeMayFollow (length table.jobs) now.state.kept change
+    → ChangeMayFollow (table_size table) now.state.kept change
 change_follows table input old now planned delta change few coherent of_table alike plans can told is =
     let acts = step old.identity plans.event old.state in
     let one : deltas_of acts ≡ change ∷ [] = told ∙ ap (λ (d : Option Delta). option_to_list d) is in
     let planned_event = event_planned table old input plans.event of_table plans.event_is in
     let base : now.state.kept.base ≡ now.state.kept.base = refl in
-    let may : BaseMayFollow (length table.jobs) now.state.kept change =
+    let may : BaseMayFollow (table_size table) now.state.kept change =
     base_of_made table now.machine now.state.kept.base (prefix_of now.state) now.state.kept planned.draft.change change base can.steady.supplied (drafted_deltas old acts planned plans.plans ∙ one) in
-    subst (λ (state : State). ChangeMayFollow (length table.jobs) state.kept change) (sym alike.state)
-    (changes_follow (setting_of old.identity table plans.event) (length table.jobs) acts old.state change coherent (step_may_be_done old.identity table plans.event old.state few coherent planned_event) one
-    (subst (λ (state : State). BaseMayFollow (length table.jobs) state.kept change) alike.state may))
+    subst (λ (state : State). ChangeMayFollow (table_size table) state.kept change) (sym alike.state)
+    (changes_follow (setting_of old.identity table plans.event) (table_size table) acts old.state change coherent (step_may_be_done old.identity table plans.event old.state few coherent planned_event) one
+    (subst (λ (state : State). BaseMayFollow (table_size table) state.kept change) alike.state may))
 
 -- it alters what the replica keeps, where the replica proposes anew
 pub planned_alters : (old now : ReplicaState) (event : Event) (delta : Option Delta) (change : Delta) → old.identity.me < 8 → IsSameReplica now old → deltas_of (step old.identity event old.state) ≡ option_to_list delta → delta ≡ Some change

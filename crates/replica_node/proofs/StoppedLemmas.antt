@@ -1,7 +1,8 @@
 -- A node that was stopped within the save of a step's change.
-use Rattle.std.proofs.Common.{◌≡◌, true, Option, None, Some, List, [], ◌∷◌, Result, length, refl, ap, ◌∙◌, inl, inr}
+use Rattle.std.proofs.Common.{◌≡◌, true, Option, None, Some, List, [], ◌∷◌, Result, refl, ap, ◌∙◌, inl, inr}
 use Rattle.std.specs.Option.{option_to_list}
 use Rattle.std.specs.Prelude.{IsErrOf, IsSome, false}
+use Rattle.launch_machine.specs.Clerk.{table_size}
 use Rattle.disk_model.specs.declared.fault.DiskFault.TheVariants as Disk
 use Rattle.disk_model.specs.Made.{DiskCall, StopsCalls, MadeCalls}
 use Rattle.disk_model.specs.Told.{TellsStop, TellsThen, Told}
@@ -47,9 +48,9 @@ tells_stopped calls result (Some old) (Some new) some is tells =
 pub stopped_within : {D : Type 0} (view : DiskView D) (table : Table) (input : Input) (old : ReplicaState) (node : ANode D) (planned : Planned) (delta : Option Delta)
     → runs_in node ≡ false → cut_short node ≡ Some planned → IsSameReplica (replica_of node) old → IsOfTable table old → IsSmall old.state old.machine.rows → CanTake table (replica_of node) planned
     → (plans : PlansStep table input old planned) → deltas_of (step old.identity plans.event old.state) ≡ option_to_list delta → IsSome delta
-    → ((change : Delta) → delta ≡ Some change → ChangeMayFollow (length table.jobs) (replica_of node).state.kept change)
+    → ((change : Delta) → delta ≡ Some change → ChangeMayFollow (table_size table) (replica_of node).state.kept change)
     → ((change : Delta) → delta ≡ Some change → ProposesAnew (replica_of node).state → Alters (replica_of node).state.kept change) → TellsStop (view.told (disk_of node))
-    → (view.honest (disk_of node) → IsRecoverable (length table.jobs) (replica_of node).state.kept (kept_after delta (replica_of node).state.kept) (view.may_leave (disk_of node)))
+    → (view.honest (disk_of node) → IsRecoverable (table_size table) (replica_of node).state.kept (kept_after delta (replica_of node).state.kept) (view.may_leave (disk_of node)))
     → IsStoppedWithin view table input old node
 stopped_within view table input old node planned None ended cut alike of_table small can plans changes some follows alters stopped recoverable = absurd (cc some)
 stopped_within view table input old node planned (Some change) ended cut alike of_table small can plans changes some follows alters stopped recoverable =

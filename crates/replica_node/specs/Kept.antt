@@ -1,5 +1,6 @@
 -- Whether a step's change is kept, where an armed disk stops within its save.
 use Rattle.std.specs.Prelude.{◌≡◌, ◌≤◌, ◌<◌, ◌⊎◌, ⊤, ℕ, false, Option, None, Some, Result, Ok, Err, IsSomeAnd}
+use Rattle.paxos_base.specs.declared.rows.TableSize.{TableSize}
 use Rattle.disk_model.specs.declared.armed.Arm.{Arm}
 use Rattle.disk_model.specs.declared.fault.FileNo.{FileNo}
 use Rattle.disk_model.specs.declared.fault.FileNo.TheVariants.{Chooser}
@@ -77,15 +78,15 @@ KeepsChange area change arm = (calls_before change ≤ arm.left) × Shows (IsByt
 
 -- An image stands for the state after a change where the disk keeps it, and selects the area after it, and else it stands for the
 -- state before and selects the area of that.
-pub record IsKeptByArm (jobs : ℕ) (area : FileNo) (kept : Durable) (change : Delta) (arm : Arm) (image : Image) : Type 0 where
-  pub saved : KeepsChange area change arm → FilesStand jobs (after_delta change kept) image
-  pub lost : (KeepsChange area change arm → ⊥) → FilesStand jobs kept image
+pub record IsKeptByArm (size : TableSize) (area : FileNo) (kept : Durable) (change : Delta) (arm : Arm) (image : Image) : Type 0 where
+  pub saved : KeepsChange area change arm → FilesStand size (after_delta change kept) image
+  pub lost : (KeepsChange area change arm → ⊥) → FilesStand size kept image
   pub saved_area : KeepsChange area change arm → selected image ≡ area_after change area
   pub lost_area : (KeepsChange area change arm → ⊥) → selected image ≡ area
 
 -- the image that a disk's stop leaves does so
-abbrev pub LeavesByArm : ℕ → FileNo → Durable → Delta → Arm → Option Told → Type 0
-LeavesByArm jobs area kept change arm told = IsSomeAnd told (λ now. IsKeptByArm jobs area kept change arm (image_left now))
+abbrev pub LeavesByArm : TableSize → FileNo → Durable → Delta → Arm → Option Told → Type 0
+LeavesByArm size area kept change arm told = IsSomeAnd told (λ now. IsKeptByArm size area kept change arm (image_left now))
 
 -- The answer is the change where the disk keeps it, and else none, but where what was kept is the same with the change.
 pub record IsAnsweredByArm (area : FileNo) (kept : Durable) (change : Delta) (arm : Arm) (answer : Option Delta) : Type 0 where

@@ -1,6 +1,7 @@
 -- A replica on its disk.
 use Rattle.std.specs.Prelude.{◌≡◌, ◌<◌, ◌≤◌, ◌⊎◌, ℕ, Bool, true, Option, None, Some, Result, Ok, Err, List, [], length}
 use Rattle.std.specs.Option.{option_to_list}
+use Rattle.launch_machine.specs.Clerk.{table_size}
 use Rattle.disk_model.specs.Images.{Image}
 use Rattle.disk_model.specs.Made.{DiskCall}
 use Rattle.disk_model.specs.View.{DiskView}
@@ -16,7 +17,7 @@ use Rattle.replica_core.specs.Step.{IsEventOf, IsOfTable}
 use Rattle.replica_core.specs.declared.input.Input.{Input}
 use Rattle.replica_store.specs.Files.{FilesStand, IsRecoverable}
 use Rattle.replica_store.specs.Made.{save_calls}
-use Rattle.replica_store.specs.Store.{area_of, jobs_of_store, records_of, StoreKeeps, IsStoreAtRest}
+use Rattle.replica_store.specs.Store.{area_of, size_of_store, records_of, StoreKeeps, IsStoreAtRest}
 use Rattle.replica_store.specs.declared.store.Store.{Store}
 use Rattle.replica_node.specs.declared.fault.NodeFault.{NodeFault}
 use Rattle.replica_node.specs.declared.node.Node.{Node}
@@ -56,7 +57,7 @@ pub record IsNodeAtRest {D : Type 0} (view : DiskView D) (table : Table) (node :
   pub of_table : IsOfTable table (replica_of node)
   pub coherent : IsCoherent (replica_of node).identity (replica_of node).state
   pub rests : IsStoreAtRest view (disk_of node) (store_of node)
-  pub jobs : jobs_of_store (store_of node) ≡ length table.jobs
+  pub size : size_of_store (store_of node) ≡ table_size table
   pub keeps : StoreKeeps (store_of node) (replica_of node).state.kept
 
 -- the replica's step at an input leads to this state
@@ -73,7 +74,7 @@ pub record IsChangeOf (table : Table) (input : Input) (replica : ReplicaState) (
 
 -- the node's records stand for what its replica keeps, with this ballot as the replica's own
 abbrev pub RecordsStand : {D : Type 0} → Node D → Option ℕ → Type 0
-RecordsStand node own = StandFor (jobs_of_store (store_of node)) (records_of (store_of node)) (replica_of node).state.kept own
+RecordsStand node own = StandFor (size_of_store (store_of node)) (records_of (store_of node)) (replica_of node).state.kept own
 
 -- the calls of its disk that save a change, where there is one
 abbrev pub disk_calls_for : {D : Type 0} → Node D → Option ℕ → Option Delta → List DiskCall
@@ -83,10 +84,10 @@ disk_calls_for node own (Some change) = save_calls (area_of (store_of node)) (le
 -- the files stand for what the replica keeps before its step at an input, or for what it keeps after it
 abbrev pub FilesStandAround : Table → Input → ReplicaState → Image → Type 0
 FilesStandAround table input replica image =
-    FilesStand (length table.jobs) replica.state.kept image
-    ⊎ ((after : State) × LeadsTo table input replica after × FilesStand (length table.jobs) after.kept image)
+    FilesStand (table_size table) replica.state.kept image
+    ⊎ ((after : State) × LeadsTo table input replica after × FilesStand (table_size table) after.kept image)
 
 -- a replica can go on from the disk with what is kept before the step at an input or after it
 abbrev pub IsRecoverableAround : Table → Input → ReplicaState → (Image → Type 0) → Type 0
 IsRecoverableAround table input replica may_leave =
-    (after : State) × LeadsTo table input replica after × IsRecoverable (length table.jobs) replica.state.kept after.kept may_leave
+    (after : State) × LeadsTo table input replica after × IsRecoverable (table_size table) replica.state.kept after.kept may_leave

@@ -1,5 +1,6 @@
 -- A node that was stopped within the save of a step's change, and what a node that is reopened says of it.
-use Rattle.std.specs.Prelude.{◌≡◌, ◌≢◌, false, Option, None, Some, Result, Ok, Err, List, [], ◌∷◌, length, IfSome}
+use Rattle.std.specs.Prelude.{◌≡◌, ◌≢◌, false, Option, None, Some, Result, Ok, Err, List, [], ◌∷◌, IfSome}
+use Rattle.launch_machine.specs.Clerk.{table_size}
 use Rattle.disk_model.specs.Told.{Told, TellsStop}
 use Rattle.disk_model.specs.View.{DiskView}
 use Rattle.due_set.specs.Table.{Table}
@@ -31,7 +32,7 @@ pub record HasPlanned (table : Table) (replica : ReplicaState) (planned : Planne
   pub acts : List Act
   pub plans : Plans replica acts planned
   pub changes : deltas_of acts ≡ change ∷ []
-  pub follows : ChangeMayFollow (length table.jobs) replica.state.kept change
+  pub follows : ChangeMayFollow (table_size table) replica.state.kept change
   pub alters : ProposesAnew replica.state → after_delta change replica.state.kept ≢ replica.state.kept
 
 -- A node was stopped within the save of a step's change: it doesn't run, its replica is as before the step, its disk tells that it
@@ -44,7 +45,7 @@ pub record IsStopped {D : Type 0} (view : DiskView D) (table : Table) (node : No
   pub has_planned : HasPlanned table (replica_of node) planned change
   pub stopped : TellsStop (view.told (disk_of node))
   pub recoverable : view.honest (disk_of node)
-      → IsRecoverable (length table.jobs) (replica_of node).state.kept (after_delta change (replica_of node).state.kept) (view.may_leave (disk_of node))
+      → IsRecoverable (table_size table) (replica_of node).state.kept (after_delta change (replica_of node).state.kept) (view.may_leave (disk_of node))
 
 -- a node was stopped within the save of a replica's step at an input
 pub record IsStoppedWithin {D : Type 0} (view : DiskView D) (table : Table) (input : Input) (replica : ReplicaState) (node : Node D) : Type 0 where

@@ -1,5 +1,6 @@
 //! Laws of a replica on its disk. Each is the contract of a function that does nothing.
 ghost use Rattle.std.specs.Prelude.{◌≡◌, ◌↔◌, ◌≤◌, ◌%◌, ℕ, IsTrue, List, [], Option, length};
+ghost use Rattle.launch_machine.specs.Clerk.{table_size};
 ghost use Rattle.disk_model.specs.declared.armed.Arm.{Arm};
 ghost use Rattle.disk_model.specs.declared.fault.FileNo.TheVariants.{AreaA, AreaB};
 ghost use Rattle.disk_model.specs.Images.{Image};
@@ -26,9 +27,9 @@ use disk_model::Disk;
 /// there with that.
 pub fn a_node_at_rest_is_recoverable<D: Disk>()
     ensures stands { (table : Table) (node : Node D) (image : Image) → IsNodeAtRest D.view table node
-        → D.view.honest (disk_of node) → D.view.may_leave (disk_of node) image → FilesStand (length table.jobs) (replica_of node).state.kept image }
+        → D.view.honest (disk_of node) → D.view.may_leave (disk_of node) image → FilesStand (table_size table) (replica_of node).state.kept image }
     ensures recoverable { (table : Table) (node : Node D) → IsNodeAtRest D.view table node → D.view.honest (disk_of node)
-        → IsRecoverable (length table.jobs) (replica_of node).state.kept (replica_of node).state.kept (D.view.may_leave (disk_of node)) }
+        → IsRecoverable (table_size table) (replica_of node).state.kept (replica_of node).state.kept (D.view.may_leave (disk_of node)) }
 {}
 
 /// A disk is reliable exactly where it is unfailing and not armed.

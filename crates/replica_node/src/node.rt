@@ -1,5 +1,6 @@
 ghost use Rattle.std.specs.Prelude.{◌≡◌, ◌↔◌, ◌<◌, ◌≤◌, ◌-◌, ◌⊎◌, ℕ, List, true, false, Ok, Err, None, Some, IsSome, IfOk, OnOk, OnErr, IsErrOf, length, Option};
 ghost use Rattle.std.specs.Option.{option_copied};
+ghost use Rattle.launch_machine.specs.Clerk.{table_size};
 ghost use Rattle.disk_model.specs.declared.armed.Arm.{Arm};
 ghost use Rattle.disk_model.specs.declared.fault.FileNo.{FileNo};
 ghost use Rattle.disk_model.specs.Images.{Image, file_of};
@@ -20,7 +21,7 @@ ghost use Rattle.replica_core.specs.Commit.{kept_after};
 ghost use Rattle.replica_core.specs.Replica.{IsSmall};
 ghost use Rattle.replica_core.specs.Step.{IsSameReplica, IsInputInside, Steps, fault_in};
 ghost use Rattle.replica_store.specs.Files.{selected, FilesStand, FilesStandForEither, IsRecoverable};
-ghost use Rattle.replica_store.specs.Store.{area_of, jobs_of_store, StoreKeeps, IsStoreAtRest};
+ghost use Rattle.replica_store.specs.Store.{area_of, size_of_store, StoreKeeps, IsStoreAtRest};
 ghost use Rattle.replica_node.specs.declared.fault.NodeFault.TheVariants.{Stopped, OutOfMemory, Damaged, Letter};
 ghost use Rattle.replica_node.specs.Faults.{of_disk_answer, EndsRun, HasNodeAnswer, IsStepRefused, letter_told};
 ghost use Rattle.replica_node.specs.Reliable.{CantFail, IsReliable, IsUnfailing, IsUnfailingAfter};
@@ -31,6 +32,7 @@ use crate::reopen::{attach_stopped, take_kept};
 use crate::start::start;
 use disk_model::{ArmedDisk, Disk};
 use due_set::JobTable;
+use launch_machine::table_size;
 use paxos_base::Delta;
 use replica_core::{Input, Planned, Replica, StepOut};
 use replica_store::{Store, StoreFault};
@@ -90,7 +92,7 @@ impl<D: Disk> Node<D> {
         ensures at_rest { IfOk result (λ node. IsNodeAtRest D.view table.now node) }
         ensures identity { IfOk result (λ node. (replica_of node).identity ≡ record { me = me; members = members }) }
         ensures started { IfOk result (λ node. (replica_of node).state ≡ started me (replica_of node).state.kept) }
-        ensures stand { IfOk result (λ node. FilesStand (length table.now.jobs) (replica_of node).state.kept (D.view.seen disk)) }
+        ensures stand { IfOk result (λ node. FilesStand (table_size table.now) (replica_of node).state.kept (D.view.seen disk)) }
         // Its store goes on in the area that the chooser selects.
         ensures area { IfOk result (λ node. area_of (store_of node) ≡ selected (D.view.seen disk)) }
         ensures clean { IsSome (D.view.told disk) → IfOk result (IsNodeClean D.view) }
@@ -102,18 +104,18 @@ impl<D: Disk> Node<D> {
 
         // From a disk that was recoverable, with the state before a change or after it, one of the two is found; whatever a
         // stop within this call leaves stands for one of them, and the disk stays recoverable.
-        ensures either { (before after : Durable) → D.view.honest disk → IsRecoverable (length table.now.jobs) before after (D.view.may_leave disk)
+        ensures either { (before after : Durable) → D.view.honest disk → IsRecoverable (table_size table.now) before after (D.view.may_leave disk)
             → IfOk result (λ node. ((replica_of node).state.kept ≡ before) ⊎ ((replica_of node).state.kept ≡ after)) }
-        ensures sound { (before after : Durable) (gate : ℕ) → D.view.honest disk → IsRecoverable (length table.now.jobs) before after (D.view.may_leave disk)
+        ensures sound { (before after : Durable) (gate : ℕ) → D.view.honest disk → IsRecoverable (table_size table.now) before after (D.view.may_leave disk)
             → fault_of result ≡ Err (Damaged gate) → ⊥ }
-        ensures images { (before after : Durable) → D.view.honest disk → IsRecoverable (length table.now.jobs) before after (D.view.may_leave disk)
-            → LeavesOnly D.view disk (disk_after result) (FilesStandForEither (length table.now.jobs) before after) }
-        ensures recoverable { (before after : Durable) → D.view.honest disk → IsRecoverable (length table.now.jobs) before after (D.view.may_leave disk)
-            → IsRecoverable (length table.now.jobs) before after (D.view.may_leave (disk_after result)) }
+        ensures images { (before after : Durable) → D.view.honest disk → IsRecoverable (table_size table.now) before after (D.view.may_leave disk)
+            → LeavesOnly D.view disk (disk_after result) (FilesStandForEither (table_size table.now) before after) }
+        ensures recoverable { (before after : Durable) → D.view.honest disk → IsRecoverable (table_size table.now) before after (D.view.may_leave disk)
+            → IsRecoverable (table_size table.now) before after (D.view.may_leave (disk_after result)) }
 
         ensures damaged { (gate : ℕ) (bodies : List (List ℕ)) → fault_of result ≡ Err (Damaged gate)
             → HasBodies (file_of (selected (D.view.seen disk)) (D.view.seen disk)) bodies
-            → IsFirstRecordAtFault (length table.now.jobs) bodies gate }
+            → IsFirstRecordAtFault (table_size table.now) bodies gate }
         ensures unwritten { (gate : ℕ) → fault_of result ≡ Err (Damaged gate) → D.view.seen (disk_after result) ≡ D.view.seen disk }
         ensures no_letter { (fault : LetterFault) → fault_of result ≡ Err (Letter fault) → ⊥ }
         ensures answer { HasNodeAnswer D.view disk (disk_after result) (fault_of result) }
@@ -147,7 +149,7 @@ impl<D: Disk> Node<D> {
         ensures at_rest { OnOk result (IsNodeAtRest D.view table.now self.new) }
         // Whatever a stop leaves from now on stands for the state after the step.
         ensures safe { D.view.honest (disk_of self.old) → OnOk result ((image : Image) → D.view.may_leave (disk_of self.new) image
-            → FilesStand (length table.now.jobs) (replica_of self.new).state.kept image) }
+            → FilesStand (table_size table.now) (replica_of self.new).state.kept image) }
         // Nothing of the chooser and of the store's area waits for a sync, in what the disk tells, where nothing did before.
         ensures clean { IsNodeClean D.view self.old → OnOk result (IsNodeClean D.view self.new) }
         ensures letter_clean { (fault : LetterFault) → result ≡ Err (Letter fault) → IsNodeClean D.view self.old → IsNodeClean D.view self.new }
@@ -179,7 +181,7 @@ impl<D: Disk> Node<D> {
         // Whether the change is kept then, and which area is in use, the numbers say that the disk was armed with.
         ensures kept_by_arm { (change : Delta) (arm : Arm) → IsChangeOf table.now input.entry (replica_of self.old) (Some change) → IsErrOf result Stopped
             → IsNodeClean D.view self.old → IsNodeArmed D.view self.old arm
-            → LeavesByArm (length table.now.jobs) (area_of (store_of self.old)) (replica_of self.old).state.kept change arm (D.view.told (disk_of self.new)) }
+            → LeavesByArm (table_size table.now) (area_of (store_of self.old)) (replica_of self.old).state.kept change arm (D.view.told (disk_of self.new)) }
         ensures undamaged { (gate : ℕ) → result ≡ Err (Damaged gate) → ⊥ }
 
         // Whatever a stop within the call leaves stands for the state before the step or for that after it, and a replica can
@@ -210,10 +212,10 @@ impl<D: Disk> Node<D> {
         requires rests { IsStoreAtRest D.view (disk_of self.old) (store_of self.old) }
         requires keeps { StoreKeeps (store_of self.old) (replica_of self.old).state.kept }
         requires follows { (change : Delta) → option_copied delta ≡ Some change
-            → ChangeMayFollow (jobs_of_store (store_of self.old)) (replica_of self.old).state.kept change }
+            → ChangeMayFollow (size_of_store (store_of self.old)) (replica_of self.old).state.kept change }
         ensures replica { replica_of self.new ≡ replica_of self.old }
         ensures changed { IsErrOf result Stopped → IsSome (option_copied delta.entry) }
-        ensures jobs { jobs_of_store (store_of self.new) ≡ jobs_of_store (store_of self.old) }
+        ensures size { size_of_store (store_of self.new) ≡ size_of_store (store_of self.old) }
         ensures runs { OnOk result (runs_in self.new ≡ runs_in self.old) }
         ensures rests { OnOk result (IsStoreAtRest D.view (disk_of self.new) (store_of self.new)) }
         ensures keeps { OnOk result (StoreKeeps (store_of self.new) (kept_after (option_copied delta.entry) (replica_of self.old).state.kept)) }
@@ -222,9 +224,9 @@ impl<D: Disk> Node<D> {
             × StoreKeeps (store_of self.new) (replica_of self.old).state.kept }
         ensures ended { EndsRun result → runs_in self.new ≡ false }
         ensures images { D.view.honest (disk_of self.old) → LeavesOnly D.view (disk_of self.old) (disk_of self.new)
-            (FilesStandForEither (jobs_of_store (store_of self.old)) (replica_of self.old).state.kept
+            (FilesStandForEither (size_of_store (store_of self.old)) (replica_of self.old).state.kept
             (kept_after (option_copied delta.entry) (replica_of self.old).state.kept)) }
-        ensures recoverable { D.view.honest (disk_of self.old) → IsRecoverable (jobs_of_store (store_of self.old)) (replica_of self.old).state.kept
+        ensures recoverable { D.view.honest (disk_of self.old) → IsRecoverable (size_of_store (store_of self.old)) (replica_of self.old).state.kept
             (kept_after (option_copied delta.entry) (replica_of self.old).state.kept) (D.view.may_leave (disk_of self.new)) }
         ensures undamaged { (gate : ℕ) → result ≡ Err (Damaged gate) → ⊥ }
         ensures no_letter { (fault : LetterFault) → result ≡ Err (Letter fault) → ⊥ }
@@ -238,7 +240,7 @@ impl<D: Disk> Node<D> {
         ensures area { OnOk result (area_of (store_of self.new) ≡ area_for (option_copied delta.entry) (area_of (store_of self.old))) }
         ensures kept_by_arm { (change : Delta) (arm : Arm) → option_copied delta.entry ≡ Some change → IsErrOf result Stopped
             → IsNodeClean D.view self.old → IsNodeArmed D.view self.old arm
-            → LeavesByArm (jobs_of_store (store_of self.old)) (area_of (store_of self.old)) (replica_of self.old).state.kept change arm
+            → LeavesByArm (size_of_store (store_of self.old)) (area_of (store_of self.old)) (replica_of self.old).state.kept change arm
             (D.view.told (disk_of self.new)) }
         ensures answer { HasNodeAnswer D.view (disk_of self.old) (disk_of self.new) result }
     {
@@ -331,32 +333,32 @@ impl<D: ArmedDisk> Node<D> {
         // The files stand for that, as did the image that the stop left; and where the answer is none, they don't stand for
         // the state after the change.
         ensures stand { D.view.honest (disk_of self)
-            → IfOk result (λ found. FilesStand (length table.now.jobs) (replica_of found.0).state.kept (D.view.seen (disk_of found.0))) }
+            → IfOk result (λ found. FilesStand (table_size table.now) (replica_of found.0).state.kept (D.view.seen (disk_of found.0))) }
         ensures image { (told : Told) → D.view.honest (disk_of self) → D.view.told (disk_of self) ≡ Some told
-            → IfOk result (λ found. FilesStand (length table.now.jobs) (replica_of found.0).state.kept (image_left told)) }
+            → IfOk result (λ found. FilesStand (table_size table.now) (replica_of found.0).state.kept (image_left told)) }
         ensures lost { (stop : IsStopped D.view table.now self) → D.view.honest (disk_of self)
             → IfOk result (λ found. found.1 ≡ None
-            → FilesStand (length table.now.jobs) (after_delta stop.change (replica_of self).state.kept) (D.view.seen (disk_of found.0)) → ⊥) }
+            → FilesStand (table_size table.now) (after_delta stop.change (replica_of self).state.kept) (D.view.seen (disk_of found.0)) → ⊥) }
         // Where the numbers that the disk was armed with say whether the stop kept the change, they decide the answer: where they
         // don't keep it, it is none, but for a vote that a leader casts again.
         ensures answer_by_arm { (stop : IsStopped D.view table.now self) (area : FileNo) (arm : Arm) → D.view.honest (disk_of self)
-            → LeavesByArm (length table.now.jobs) area (replica_of self).state.kept stop.change arm (D.view.told (disk_of self))
+            → LeavesByArm (table_size table.now) area (replica_of self).state.kept stop.change arm (D.view.told (disk_of self))
             → IfOk result (λ found. IsAnsweredByArm area (replica_of self).state.kept stop.change arm found.1) }
         ensures lost_by_arm { (stop : IsStopped D.view table.now self) (area : FileNo) (arm : Arm) → D.view.honest (disk_of self)
-            → LeavesByArm (length table.now.jobs) area (replica_of self).state.kept stop.change arm (D.view.told (disk_of self))
+            → LeavesByArm (table_size table.now) area (replica_of self).state.kept stop.change arm (D.view.told (disk_of self))
             → ProposesAnew (replica_of self).state → (KeepsChange area stop.change arm → ⊥) → IfOk result (λ found. found.1 ≡ None) }
         // The area in use is that of the image that the stop left; by the numbers of the arm, it is the one after the answer.
         ensures area { (told : Told) → D.view.told (disk_of self) ≡ Some told
             → IfOk result (λ found. selected (D.view.seen (disk_of found.0)) ≡ selected (image_left told)) }
         ensures area_by_arm { (stop : IsStopped D.view table.now self) (area : FileNo) (arm : Arm) → D.view.honest (disk_of self)
-            → LeavesByArm (length table.now.jobs) area (replica_of self).state.kept stop.change arm (D.view.told (disk_of self))
+            → LeavesByArm (table_size table.now) area (replica_of self).state.kept stop.change arm (D.view.told (disk_of self))
             → IfOk result (λ found. selected (D.view.seen (disk_of found.0)) ≡ area_for found.1 area) }
         ensures recoverable { D.view.honest (disk_of self)
-            → IfOk result (λ found. IsRecoverable (length table.now.jobs) (replica_of found.0).state.kept (replica_of found.0).state.kept
+            → IfOk result (λ found. IsRecoverable (table_size table.now) (replica_of found.0).state.kept (replica_of found.0).state.kept
             (D.view.may_leave (disk_of found.0))) }
 
         ensures still_recoverable { (stop : IsStopped D.view table.now self) → D.view.honest (disk_of self)
-            → IsRecoverable (length table.now.jobs) (replica_of self).state.kept (after_delta stop.change (replica_of self).state.kept)
+            → IsRecoverable (table_size table.now) (replica_of self).state.kept (after_delta stop.change (replica_of self).state.kept)
             (D.view.may_leave (disk_after (reopened result))) }
         ensures quiet { IsDiskUnarmed (D.view.told (disk_after (reopened result))) }
         // A disk that can't fail is reliable then, and of an honest one want of memory is the only fault.
@@ -368,7 +370,7 @@ impl<D: ArmedDisk> Node<D> {
         ensures sound { (gate : ℕ) → D.view.honest (disk_of self) → fault_of (reopened result) ≡ Err (Damaged gate) → ⊥ }
         ensures damaged { (gate : ℕ) (bodies : List (List ℕ)) → fault_of (reopened result) ≡ Err (Damaged gate)
             → HasBodies (file_of (selected (D.view.seen (disk_after (reopened result)))) (D.view.seen (disk_after (reopened result)))) bodies
-            → IsFirstRecordAtFault (length table.now.jobs) bodies gate }
+            → IsFirstRecordAtFault (table_size table.now) bodies gate }
         ensures no_letter { (fault : LetterFault) → fault_of (reopened result) ≡ Err (Letter fault) → ⊥ }
         ensures answer { HasNodeAnswer D.view (disk_of self) (disk_after (reopened result)) (fault_of (reopened result)) }
     {
@@ -381,7 +383,7 @@ impl<D: ArmedDisk> Node<D> {
         let Some(planned) = stopped else {
             unreachable!()
         };
-        match attach_stopped(alloc, &mut disk, table.jobs()) {
+        match attach_stopped(alloc, &mut disk, table_size(table)) {
             Ok((store, kept)) => {
                 let change = take_kept(&mut replica, table, planned, &kept);
                 let node = Node {
@@ -431,13 +433,13 @@ impl<D: ArmedDisk> Node<D> {
             → IfOk result (λ answer. (replica_of self.new).state.kept ≡ kept_after answer (replica_of self.old).state.kept) }
         // The numbers that the disk was armed with decide the answer and the area in use, as they do for `reopen`.
         ensures answer_by_arm { (stop : IsStopped D.view table.now self.old) (area : FileNo) (arm : Arm) → D.view.honest (disk_of self.old)
-            → LeavesByArm (length table.now.jobs) area (replica_of self.old).state.kept stop.change arm (D.view.told (disk_of self.old))
+            → LeavesByArm (table_size table.now) area (replica_of self.old).state.kept stop.change arm (D.view.told (disk_of self.old))
             → IfOk result (λ answer. IsAnsweredByArm area (replica_of self.old).state.kept stop.change arm answer) }
         ensures lost_by_arm { (stop : IsStopped D.view table.now self.old) (area : FileNo) (arm : Arm) → D.view.honest (disk_of self.old)
-            → LeavesByArm (length table.now.jobs) area (replica_of self.old).state.kept stop.change arm (D.view.told (disk_of self.old))
+            → LeavesByArm (table_size table.now) area (replica_of self.old).state.kept stop.change arm (D.view.told (disk_of self.old))
             → ProposesAnew (replica_of self.old).state → (KeepsChange area stop.change arm → ⊥) → IfOk result (λ answer. answer ≡ None) }
         ensures area_by_arm { (stop : IsStopped D.view table.now self.old) (area : FileNo) (arm : Arm) → D.view.honest (disk_of self.old)
-            → LeavesByArm (length table.now.jobs) area (replica_of self.old).state.kept stop.change arm (D.view.told (disk_of self.old))
+            → LeavesByArm (table_size table.now) area (replica_of self.old).state.kept stop.change arm (D.view.told (disk_of self.old))
             → IfOk result (λ answer. area_of (store_of self.new) ≡ area_for answer area) }
         ensures clean { OnOk result (IsNodeClean D.view self.new) }
         ensures reliable { CantFail (D.view.told (disk_of self.old)) → OnOk result (IsReliable (D.view.told (disk_of self.new))) }
@@ -448,7 +450,7 @@ impl<D: ArmedDisk> Node<D> {
         let Some(planned) = self.stopped.take() else {
             unreachable!()
         };
-        let (store, kept) = attach_stopped(alloc, &mut self.disk, table.jobs())?;
+        let (store, kept) = attach_stopped(alloc, &mut self.disk, table_size(table))?;
         let change = take_kept(&mut self.replica, table, planned, &kept);
         self.replica = Replica::start(me, members, table, kept)?;
         self.store = store;

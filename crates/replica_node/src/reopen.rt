@@ -1,5 +1,6 @@
 //! What a node does where it is reopened.
 ghost use Rattle.std.specs.Prelude.{◌≡◌, ◌↔◌, ◌⊎◌, ℕ, List, IsTrue, None, Some, Err, IfOk, IsSomeAnd};
+ghost use Rattle.paxos_base.specs.declared.rows.TableSize.{TableSize};
 ghost use Rattle.disk_model.specs.Images.{file_of, NoNewImage};
 ghost use Rattle.disk_model.specs.Told.{Told, TellsStop, image_left};
 ghost use Rattle.due_set.specs.Table.{Table};
@@ -12,7 +13,7 @@ ghost use Rattle.store_format.specs.Area.{IsFirstRecordAtFault};
 ghost use Rattle.replica_core.specs.Replica.{IsSmall, ReplicaState};
 ghost use Rattle.replica_core.specs.Step.{CanTake, IsOfTable};
 ghost use Rattle.replica_store.specs.Files.{selected, FilesStand, IsRecoverable};
-ghost use Rattle.replica_store.specs.Store.{area_of, jobs_of_store, StoreKeeps, IsStoreAtRest};
+ghost use Rattle.replica_store.specs.Store.{area_of, size_of_store, StoreKeeps, IsStoreAtRest};
 ghost use Rattle.replica_node.specs.Change.{ShowsChange, IsDecided};
 ghost use Rattle.replica_node.specs.Faults.{EndsRun, HasNodeAnswer};
 ghost use Rattle.replica_node.specs.Kept.{IsAreaSynced};
@@ -24,7 +25,7 @@ use crate::change::shows_change;
 use crate::fault::NodeFault;
 use disk_model::ArmedDisk;
 use due_set::JobTable;
-use paxos_base::{Delta, Durable};
+use paxos_base::{Delta, Durable, TableSize};
 use replica_core::{Planned, Replica};
 use replica_store::Store;
 use std::alloc::Global;
@@ -33,24 +34,24 @@ use std::alloc::Global;
 pub fn attach_stopped<D: ArmedDisk>(
     alloc: Global,
     disk: &mut D,
-    jobs: u32,
+    size: TableSize,
 ) -> Result<(Store, Durable), NodeFault>
     requires stopped { TellsStop (D.view.told disk.old) }
     ensures rests { IfOk result (λ found. IsStoreAtRest D.view disk.new found.0) }
-    ensures jobs { IfOk result (λ found. jobs_of_store found.0 ≡ jobs) }
+    ensures size { IfOk result (λ found. size_of_store found.0 ≡ size) }
     ensures keeps { IfOk result (λ found. StoreKeeps found.0 found.1) }
-    ensures image { (told : Told) → D.view.told disk.old ≡ Some told → IfOk result (λ found. FilesStand jobs found.1 (image_left told)) }
+    ensures image { (told : Told) → D.view.told disk.old ≡ Some told → IfOk result (λ found. FilesStand size found.1 (image_left told)) }
     ensures area { (told : Told) → D.view.told disk.old ≡ Some told → IfOk result (λ found. area_of found.0 ≡ selected (image_left told)) }
     ensures clean { IfOk result (λ found. IsSomeAnd (D.view.told disk.new) (IsAreaSynced (area_of found.0))) }
-    ensures either { (before after : Durable) → D.view.honest disk.old → IsRecoverable jobs before after (D.view.may_leave disk.old)
+    ensures either { (before after : Durable) → D.view.honest disk.old → IsRecoverable size before after (D.view.may_leave disk.old)
         → IfOk result (λ found. (found.1 ≡ before) ⊎ (found.1 ≡ after)) }
-    ensures sound { (before after : Durable) (gate : ℕ) → D.view.honest disk.old → IsRecoverable jobs before after (D.view.may_leave disk.old)
+    ensures sound { (before after : Durable) (gate : ℕ) → D.view.honest disk.old → IsRecoverable size before after (D.view.may_leave disk.old)
         → result ≡ Err (Damaged gate) → ⊥ }
-    ensures recoverable { (before after : Durable) → D.view.honest disk.old → IsRecoverable jobs before after (D.view.may_leave disk.old)
-        → IsRecoverable jobs before after (D.view.may_leave disk.new) }
+    ensures recoverable { (before after : Durable) → D.view.honest disk.old → IsRecoverable size before after (D.view.may_leave disk.old)
+        → IsRecoverable size before after (D.view.may_leave disk.new) }
     ensures damaged { (gate : ℕ) (bodies : List (List ℕ)) → result ≡ Err (Damaged gate)
         → HasBodies (file_of (selected (D.view.seen disk.new)) (D.view.seen disk.new)) bodies
-        → IsFirstRecordAtFault jobs bodies gate }
+        → IsFirstRecordAtFault size bodies gate }
     ensures quiet { IsDiskUnarmed (D.view.told disk.new) }
     ensures reliable { CantFail (D.view.told disk.old) → IsReliable (D.view.told disk.new) }
     ensures unended { CantFail (D.view.told disk.old) → EndsRun result → ⊥ }
@@ -59,7 +60,7 @@ pub fn attach_stopped<D: ArmedDisk>(
     ensures answer { HasNodeAnswer D.view disk.old disk.new result }
 {
     disk.revive();
-    Ok(Store::attach(alloc, disk, jobs)?)
+    Ok(Store::attach(alloc, disk, size)?)
 }
 
 /// Takes a step that was cut short where what is kept shows its change, and gives that change.

@@ -127,7 +127,7 @@ fn row_of(parts: &str) -> Result<JobRow, PlayFault> {
     })
 }
 
-// How many rows there are.
+// How many rows of jobs there are.
 fn rows_of(word: &str) -> Result<u32, PlayFault> {
     match number_of(word) {
         Some(rows) if rows <= PACKETS => Ok(rows as u32),
@@ -135,8 +135,8 @@ fn rows_of(word: &str) -> Result<u32, PlayFault> {
     }
 }
 
-// Appends a snapshot at a slot, and so many rows behind it, as `snapshot 70 1`. The rows are fresh, or all have the parts that
-// follow, as in `snapshot 70 1, launched 3`.
+// Appends a snapshot at a slot, and behind it so many rows of jobs and the table's own, as `snapshot 70 1`. The rows of jobs are
+// fresh, or all have the parts that follow, as in `snapshot 70 1, launched 3`; the table's own is fresh.
 fn put_snapshot(from: u8, words: &str, bytes: &mut Vec<u8>) -> Result<(), PlayFault> {
     let (slot, rest) = split(words)?;
     let slot = slot_of(slot)?;
@@ -144,13 +144,14 @@ fn put_snapshot(from: u8, words: &str, bytes: &mut Vec<u8>) -> Result<(), PlayFa
         Some((rows, parts)) => (rows_of(rows)?, row_of(parts)?),
         None => (rows_of(rest)?, JobRow::fresh(0)),
     };
-    let count = u64::from(rows);
+    let count = u64::from(rows) + 1;
     put_packet(from, Packet::Snap { slot, count }, bytes)?;
     for job in 0..rows {
         let row = JobRow { job, ..row };
         put_packet(from, Packet::SnapRow { slot, row }, bytes)?;
     }
-    Ok(())
+    let row = JobRow::fresh(rows);
+    put_packet(from, Packet::SnapRow { slot, row }, bytes)
 }
 
 // Appends what the words of a packet say.

@@ -2,7 +2,7 @@
 use crate::noops::Ends;
 use crate::text::Text;
 use cron_io::OutOfMemory;
-use paxos_base::{Ballot, Entry, Kind};
+use paxos_base::{Ballot, Entry, JobRow, Kind};
 use paxos_letter::{LetterFault, Packet};
 use zone_minutes::Minute;
 
@@ -103,8 +103,16 @@ impl Text {
         self.put_number(", rows ", count)
     }
 
-    // Appends a packet.
-    fn put_packet(&mut self, packet: &Packet) -> Result<(), OutOfMemory> {
+    // Appends a row of a snapshot. The last one, behind which there is no other, is the table's own.
+    fn put_snapshot_row(&mut self, row: &JobRow, next: Option<&Packet>) -> Result<(), OutOfMemory> {
+        match next {
+            Some(Packet::SnapRow { .. }) => self.put_row(row),
+            _ => self.put_table_row(row),
+        }
+    }
+
+    // Appends a packet, by the one behind it too, where there is one.
+    fn put_packet(&mut self, packet: &Packet, next: Option<&Packet>) -> Result<(), OutOfMemory> {
         match packet {
             Packet::Prepare { ballot, slot } => {
                 self.put_place("prepare ", *ballot, " from ", *slot)
@@ -132,7 +140,7 @@ impl Text {
             Packet::Known { slot, entry } => self.put_known(*slot, entry),
             Packet::AskFrom { slot } => self.put_number("ask from ", *slot),
             Packet::Snap { slot, count } => self.put_snapshot(*slot, *count),
-            Packet::SnapRow { row, .. } => self.put_row(row),
+            Packet::SnapRow { row, .. } => self.put_snapshot_row(row, next),
             Packet::Lead { ballot, slot } => self.put_place("lead ", *ballot, " up to ", *slot),
         }
     }
@@ -163,7 +171,7 @@ impl Text {
             }
             match slot {
                 Some(slot) => self.put_noop("known ", slot, " noop", ends)?,
-                None => self.put_packet(&packets[place])?,
+                None => self.put_packet(&packets[place], packets.get(place + 1))?,
             }
             before = slot;
         }

@@ -5,9 +5,20 @@ use paxos_base::JobRow;
 use zone_minutes::Minute;
 
 impl Text {
-    /// Appends a row of the launch table. What isn't there is left out, and so is a count of 0.
+    /// Appends the row of a job.
     pub fn put_row(&mut self, row: &JobRow) -> Result<(), OutOfMemory> {
         self.put_number("row job ", u64::from(row.job))?;
+        self.put_parts(row)
+    }
+
+    /// Appends the table's own row.
+    pub fn put_table_row(&mut self, row: &JobRow) -> Result<(), OutOfMemory> {
+        self.put("row table")?;
+        self.put_parts(row)
+    }
+
+    // Appends the parts of a row. What isn't there is left out, and so is a count of 0.
+    fn put_parts(&mut self, row: &JobRow) -> Result<(), OutOfMemory> {
         self.put_instant(", cursor ", row.cursor)?;
         self.put_instant(", open ", row.open_now)?;
         self.put_instant(", last ", row.last)?;
@@ -31,7 +42,7 @@ impl Text {
         self.put_number(words, u64::from(count))
     }
 
-    /// Appends a slot and the rows of the launch table there.
+    /// Appends a slot and the rows of the launch table there: those of the jobs, and the table's own, the last.
     pub fn put_table(
         &mut self,
         words: &str,
@@ -39,10 +50,14 @@ impl Text {
         rows: &[JobRow],
     ) -> Result<(), OutOfMemory> {
         self.put_number(words, slot)?;
-        for row in rows {
+        let Some((own, jobs)) = rows.split_last() else {
+            return Ok(());
+        };
+        for row in jobs {
             self.put("; ")?;
             self.put_row(row)?;
         }
-        Ok(())
+        self.put("; ")?;
+        self.put_table_row(own)
     }
 }

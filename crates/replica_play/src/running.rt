@@ -1,4 +1,5 @@
 ghost use Rattle.std.specs.Prelude.{◌<◌, ◌≤◌, ◌^◌, IsTrue, IfOk, OnOk, length};
+ghost use Rattle.launch_machine.specs.Clerk.{table_size};
 ghost use Rattle.paxos_base.specs.Rows.{RowsStand};
 ghost use Rattle.replica_core.specs.Replica.{IsSmall};
 ghost use Rattle.replica_core.specs.Step.{IsSameReplica, IsInputInside, Steps};
@@ -34,7 +35,7 @@ impl<'a> Model for Running<'a> {
 fn may_start(me: u8, members: u8, table: &JobTable, durable: &Durable) -> bool
     ensures me { IsTrue result → me < members }
     ensures few { IsTrue result → members ≤ 7 }
-    ensures rows { IsTrue result → RowsStand durable.now.rows (length table.now.jobs) }
+    ensures rows { IsTrue result → RowsStand durable.now.rows (table_size table.now) }
     ensures tried { IsTrue result → durable.now.tried < 2 ^ 61 }
 {
     members <= 7

@@ -1,6 +1,7 @@
 -- Files that are attached: the chooser is synced and read, the selected area is, and its tail gate is closed.
-use Rattle.std.proofs.Common.{◌≡◌, ℕ, refl, ◌∙◌, subst}
+use Rattle.std.proofs.Common.{◌≡◌, refl, ◌∙◌, subst}
 use Rattle.std.specs.Bool.{⊤}
+use Rattle.paxos_base.specs.declared.rows.TableSize.{TableSize}
 use Rattle.disk_model.specs.declared.fault.FileNo.{FileNo}
 use Rattle.disk_model.specs.declared.fault.FileNo.TheVariants.{Chooser}
 use Rattle.disk_model.specs.Images.{Image, IsDurable, NoNewImage, InFileOnly}
@@ -30,12 +31,12 @@ module _ {D : Type 0} (view : DiskView D) (file : FileNo) where
       follows_on view old read new (InFileOnly file before (λ bytes. ⊤)) (InFileOnly file after (λ bytes. ⊤))
       (looked_elsewhere old read before run) closed (λ image only. (only.0, none only.0 only.1, only.2, tt))
 
-module _ (jobs : ℕ) (before after : Durable) (seen : Image) (left : Image → Type 0) where
+module _ (size : TableSize) (before after : Durable) (seen : Image) (left : Image → Type 0) where
   -- what stands in the area that was read
-  pub area_staged : (area : FileNo) → selected seen ≡ area → left seen → IsRecoverable jobs before after left → IsAreaStaged jobs before after area left
-  area_staged area is here recoverable = subst (λ file. IsAreaStaged jobs before after file left) is (selected_staged jobs before after left seen recoverable here)
+  pub area_staged : (area : FileNo) → selected seen ≡ area → left seen → IsRecoverable size before after left → IsAreaStaged size before after area left
+  area_staged area is here recoverable = subst (λ file. IsAreaStaged size before after file left) is (selected_staged size before after left seen recoverable here)
 
   -- whatever the close of its tail gate leaves
-  pub close_recoverable : (area : FileNo) → selected seen ≡ area → IsDurable Chooser seen left → (staged : IsAreaStaged jobs before after area left) → IsRecoverable jobs before after (InFileOnly area left (IsStaged staged.bodies staged.pending))
+  pub close_recoverable : (area : FileNo) → selected seen ≡ area → IsDurable Chooser seen left → (staged : IsAreaStaged size before after area left) → IsRecoverable size before after (InFileOnly area left (IsStaged staged.bodies staged.pending))
   close_recoverable area is durable staged =
-      in_area jobs before after seen left area staged.bodies staged.pending (λ chooser. selects_area seen (is ∙ chooser)) is durable staged.without staged.with_it
+      in_area size before after seen left area staged.bodies staged.pending (λ chooser. selects_area seen (is ∙ chooser)) is durable staged.without staged.with_it

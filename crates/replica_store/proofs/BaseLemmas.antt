@@ -1,5 +1,6 @@
 -- Which state the files of the image stand for that a stop within the save of a base leaves.
 use Rattle.std.proofs.Common.{◌≡◌, ◌≢◌, ◌⊎◌, inl, inr, ⊎_elim, ℕ, zero, suc, ◌-◌, ◌<◌, ◌≤◌, ◌%◌, ◌==◌, if◌then◌else◌, Bool, true, false, List, [], ◌∷◌, ◌++◌, length, take, map, get_or, Option, Some, Ok, Err, refl, sym, ap, ◌∙◌, subst, arith}
+use Rattle.paxos_base.specs.declared.rows.TableSize.{TableSize}
 use Rattle.disk_model.specs.declared.armed.Arm.{Arm}
 use Rattle.disk_model.specs.declared.fault.DiskFault.TheVariants.{Stopped}
 use Rattle.disk_model.specs.declared.fault.FileNo.{FileNo}
@@ -64,7 +65,7 @@ not_other true AreaB differs not_it = refl
 not_other false AreaA differs not_it = refl
 not_other false AreaB differs not_it = absurd (not_it refl)
 
-module _ (jobs : ℕ) (area : FileNo) (kept : Durable) (own : Option ℕ) (slot : ℕ) (rows : List JobRow) (arm : Arm) (old new : Told) (save : StopsInSave jobs area kept own (Base slot rows) arm old new) where
+module _ (size : TableSize) (area : FileNo) (kept : Durable) (own : Option ℕ) (slot : ℕ) (rows : List JobRow) (arm : Arm) (old new : Told) (save : StopsInSave size area kept own (Base slot rows) arm old new) where
   abbrev bodies : List (List ℕ)
   bodies = map record_bytes (base_records kept own slot rows)
 
@@ -93,23 +94,23 @@ module _ (jobs : ℕ) (area : FileNo) (kept : Durable) (own : Option ℕ) (slot 
   area_differs same = other_differs area is_area (sym same)
 
   -- the area as it was, where the image selects it
-  area_stays : selected (image_left new) ≡ area → IsClean area new → file_of area new.done ≡ file_of area old.done → StandsIn jobs area kept (image_left new)
+  area_stays : selected (image_left new) ≡ area → IsClean area new → file_of area new.done ≡ file_of area old.done → StandsIn size area kept (image_left new)
   area_stays selects clean same =
-      selects_in jobs kept (image_left new) area save.records selects
+      selects_in size kept (image_left new) area save.records selects
       (has_at_rest (file_of area (image_left new)) save.records (subst (λ l. HasRestingGate l save.records) (sym (clean_left last new area armed clean ∙ same)) save.ready.at_rest))
       (own, save.stand)
 
-  both_stay : IsClean Chooser new → file_of Chooser new.done ≡ file_of Chooser old.done → IsClean area new → file_of area new.done ≡ file_of area old.done → StandsIn jobs area kept (image_left new)
+  both_stay : IsClean Chooser new → file_of Chooser new.done ≡ file_of Chooser old.done → IsClean area new → file_of area new.done ≡ file_of area old.done → StandsIn size area kept (image_left new)
   both_stay chooser chooser_same clean same = area_stays (same_chooser (image_left new) old.done (clean_left last new Chooser armed chooser ∙ chooser_same) ∙ save.ready.selects) clean same
 
-  cut_ends : IsEmptied other old new → StandsIn jobs area kept (image_left new)
+  cut_ends : IsEmptied other old new → StandsIn size area kept (image_left new)
   cut_ends emptied =
       both_stay (emptied_clean other Chooser old new chooser_differs emptied save.ready.chooser) (emptied_same other Chooser old new chooser_differs emptied)
       (emptied_clean other area old new area_differs emptied save.ready.area_clean) (emptied_same other area old new area_differs emptied)
 
   -- after the cut
   module _ (cut : Told) (emptied : IsEmptied other old cut) where
-    write_ends : IsPending other 0 (gated bodies) cut new → StandsIn jobs area kept (image_left new)
+    write_ends : IsPending other 0 (gated bodies) cut new → StandsIn size area kept (image_left new)
     write_ends pending =
         both_stay
         (pending_clean other 0 (gated bodies) cut new pending Chooser chooser_differs (emptied_clean other Chooser old cut chooser_differs emptied save.ready.chooser))
@@ -137,7 +138,7 @@ module _ (jobs : ℕ) (area : FileNo) (kept : Durable) (own : Option ℕ) (slot 
       other_not_yet : SelectsOther (get_or chooser 0 0) → ⊥
       other_not_yet selects = area_differs (sym (same_chooser later.mid.done old.done chooser_same ∙ save.ready.selects) ∙ selects)
 
-      base_hidden : (Shows SelectsOther arm.image → ⊥) → StandsIn jobs area kept (image_left new)
+      base_hidden : (Shows SelectsOther arm.image → ⊥) → StandsIn size area kept (image_left new)
       base_hidden not_shown =
           let not_it = hidden arm.image 0 bit chooser (new.touched Chooser) (omega arith) (pending_touched Chooser 0 (bit ∷ []) later.mid new pending chooser_clean) SelectsOther other_not_yet not_shown in
           area_stays
@@ -157,11 +158,11 @@ module _ (jobs : ℕ) (area : FileNo) (kept : Durable) (own : Option ℕ) (slot 
           let selects = shown arm.image 0 bit chooser (new.touched Chooser) (omega arith) (pending_touched Chooser 0 (bit ∷ []) later.mid new pending chooser_clean) SelectsOther (byte_selects other (other_is_area area)) shows in
           subst (λ (l : List ℕ). SelectsOther (get_or l 0 0)) (sym bytes_now) selects
 
-      base_shown : AreRecords bodies (base_records kept own slot rows) → Shows SelectsOther arm.image → StandsIn jobs (other_area area) (after_delta (Base slot rows) kept) (image_left new)
+      base_shown : AreRecords bodies (base_records kept own slot rows) → Shows SelectsOther arm.image → StandsIn size (other_area area) (after_delta (Base slot rows) kept) (image_left new)
       base_shown are shows =
-          selects_in jobs (after_delta (Base slot rows) kept) (image_left new) other bodies (base_selects shows)
+          selects_in size (after_delta (Base slot rows) kept) (image_left new) other bodies (base_selects shows)
           (has_at_rest (file_of other (image_left new)) bodies (subst (λ l. HasRestingGate l bodies) (sym other_bytes) (gated_rest bodies (all_whole (base_records kept own slot rows)))))
-          (own, base_stand_for jobs bodies kept own slot rows are (StandFor-sound jobs save.records kept own save.stand) save.follows.1)
+          (own, base_stand_for size bodies kept own slot rows are (StandFor-sound size save.records kept own save.stand) save.follows.1)
 
   -- Within the first three calls, or within the last two.
   record StopsAtChooser : Type 0 where
@@ -171,7 +172,7 @@ module _ (jobs : ℕ) (area : FileNo) (kept : Durable) (own : Option ℕ) (slot 
     later : StopsLater other 0 (gated bodies) (choose_calls other) fewer cut new
     pending : IsPending Chooser 0 (bit ∷ []) later.mid new
 
-  where_stopped : ((arm.left < 3) × StandsIn jobs area kept (image_left new)) ⊎ StopsAtChooser
+  where_stopped : ((arm.left < 3) × StandsIn size area kept (image_left new)) ⊎ StopsAtChooser
   where_stopped = first (breaks_first (CutTo other 0) (synced_write other 0 (gated bodies) ++ choose_calls other) old new save.stops)
     where
       last_two : (cut : Told) → IsEmptied other old cut → 0 < arm.left → (later : StopsLater other 0 (gated bodies) (choose_calls other) fewer cut new)
@@ -181,26 +182,26 @@ module _ (jobs : ℕ) (area : FileNo) (kept : Durable) (own : Option ℕ) (slot 
       last_two cut emptied some later (inr none) = absurd (none_breaks none.mid new none.stops)
 
       after_cut : (cut : Told) → IsEmptied other old cut → 0 < arm.left → ((fewer.left < 2) × IsPending other 0 (gated bodies) cut new) ⊎ StopsLater other 0 (gated bodies) (choose_calls other) fewer cut new
-          → ((arm.left < 3) × StandsIn jobs area kept (image_left new)) ⊎ StopsAtChooser
+          → ((arm.left < 3) × StandsIn size area kept (image_left new)) ⊎ StopsAtChooser
       after_cut cut emptied some (inl stopped) = inl (omega (arith, some, stopped.0), write_ends cut emptied stopped.1)
       after_cut cut emptied some (inr later) =
           inr (last_two cut emptied some later (stops_in_write Chooser 0 (bit ∷ []) [] (record fewer { left = arm.left - 1 - 1 - 1 }) later.mid new later.runs later.armed later.stops))
 
       first : GaveAnswer (CutTo other 0) (Err Stopped) old new ⊎ ((cut : Told) × GaveAnswer (CutTo other 0) (Ok tt) old cut × BreaksOff Stopped (synced_write other 0 (gated bodies) ++ choose_calls other) cut new)
-          → ((arm.left < 3) × StandsIn jobs area kept (image_left new)) ⊎ StopsAtChooser
+          → ((arm.left < 3) × StandsIn size area kept (image_left new)) ⊎ StopsAtChooser
       first (inl stopped) = inl (omega (arith, (one_stops (CutTo other 0) arm old new save.ready.runs save.armed stopped).0), cut_ends (cut_stopped other old new save.ready.runs stopped))
       first (inr (cut, passed, rest)) =
           let armed_cut = one_passes arm old cut save.armed (CutTo other 0) passed in
           after_cut cut (cut_passed other old cut passed) armed_cut.0
           (stops_in_write other 0 (gated bodies) (choose_calls other) fewer cut new (runs_on (CutTo other 0) old cut passed) armed_cut.1 rest)
 
-  pub base_early : arm.left < 3 → StandsIn jobs area kept (image_left new)
+  pub base_early : arm.left < 3 → StandsIn size area kept (image_left new)
   base_early few = ⊎_elim (λ stopped. stopped.1) (λ (at : StopsAtChooser). absurd (omega (arith, at.three, few))) where_stopped
 
-  pub base_lost : 3 ≤ arm.left → (Shows (λ byte. selected_by byte ≡ other_area area) arm.image → ⊥) → StandsIn jobs area kept (image_left new)
+  pub base_lost : 3 ≤ arm.left → (Shows (λ byte. selected_by byte ≡ other_area area) arm.image → ⊥) → StandsIn size area kept (image_left new)
   base_lost more not_shown = ⊎_elim (λ stopped. absurd (omega (arith, more, stopped.0))) (λ (at : StopsAtChooser). base_hidden at.cut at.emptied at.later at.pending not_shown) where_stopped
 
-  pub base_kept : AreRecords bodies (base_records kept own slot rows) → 3 ≤ arm.left → Shows (λ byte. selected_by byte ≡ other_area area) arm.image → StandsIn jobs (other_area area) (after_delta (Base slot rows) kept) (image_left new)
+  pub base_kept : AreRecords bodies (base_records kept own slot rows) → 3 ≤ arm.left → Shows (λ byte. selected_by byte ≡ other_area area) arm.image → StandsIn size (other_area area) (after_delta (Base slot rows) kept) (image_left new)
   base_kept are more shows = ⊎_elim (λ stopped. absurd (omega (arith, more, stopped.0))) (λ (at : StopsAtChooser). base_shown at.cut at.emptied at.later at.pending are shows) where_stopped
 
   pub base_area : 3 ≤ arm.left → Shows (λ byte. selected_by byte ≡ other_area area) arm.image → selected (image_left new) ≡ other_area area

@@ -1,5 +1,6 @@
 -- What calls on one file leave of the others.
 use Rattle.std.proofs.Common.{◌≡◌, ◌≢◌, ℕ, List, [], ◌∷◌, ◌++◌, Option, None, IfSome, sym, ◌∙◌, subst}
+use Rattle.paxos_base.specs.declared.rows.TableSize.{TableSize}
 use Rattle.disk_model.specs.declared.fault.FileNo.{FileNo}
 use Rattle.disk_model.specs.declared.fault.FileNo.TheVariants.{Chooser}
 use Rattle.disk_model.specs.Images.{Image, file_of, OthersStay, IsDurable, InFileOnly}
@@ -20,17 +21,17 @@ stays_durable file changed differs seen after old new P durable others only imag
 pub others_as_seen : (file changed : FileNo) → file ≢ changed → (seen : Image) (old : Image → Type 0) (P : List ℕ → Type 0) → IsDurable file seen old → (image : Image) → InFileOnly changed old P image → file_of file image ≡ file_of file seen
 others_as_seen file changed differs seen old P durable image only = only.2 file differs ∙ durable only.0 only.1
 
-module _ (jobs : ℕ) (before after : Durable) (seen : Image) (old : Image → Type 0) where
+module _ (size : TableSize) (before after : Durable) (seen : Image) (old : Image → Type 0) where
   -- a call on the selected area, which leaves it staged
-  pub in_area : (area : FileNo) (bodies : List (List ℕ)) (pending : Option (List ℕ)) → area ≢ Chooser → selected seen ≡ area → IsDurable Chooser seen old → BodiesStandForEither jobs before after bodies
-      → IfSome pending (λ body. BodiesStandForEither jobs before after (bodies ++ body ∷ []))
-      → IsRecoverable jobs before after (InFileOnly area old (IsStaged bodies pending))
+  pub in_area : (area : FileNo) (bodies : List (List ℕ)) (pending : Option (List ℕ)) → area ≢ Chooser → selected seen ≡ area → IsDurable Chooser seen old → BodiesStandForEither size before after bodies
+      → IfSome pending (λ body. BodiesStandForEither size before after (bodies ++ body ∷ []))
+      → IsRecoverable size before after (InFileOnly area old (IsStaged bodies pending))
   in_area area bodies pending differs is durable without with_it =
-      one_area jobs before after (InFileOnly area old (IsStaged bodies pending)) area
+      one_area size before after (InFileOnly area old (IsStaged bodies pending)) area
       (λ image only. same_chooser image seen (others_as_seen Chooser area (λ same. differs (sym same)) seen old (IsStaged bodies pending) durable image only) ∙ is)
       (record { bodies = bodies; pending = pending; staged = λ image only. only.3; without = without; with_it = with_it })
 
-  at_rest : (file : FileNo) (bodies : List (List ℕ)) (P : Image → Type 0) → HasRestingGate (file_of file seen) bodies → ((image : Image) → P image → file_of file image ≡ file_of file seen) → BodiesStandForEither jobs before after bodies → IsAreaStaged jobs before after file P
+  at_rest : (file : FileNo) (bodies : List (List ℕ)) (P : Image → Type 0) → HasRestingGate (file_of file seen) bodies → ((image : Image) → P image → file_of file image ≡ file_of file seen) → BodiesStandForEither size before after bodies → IsAreaStaged size before after file P
   at_rest file bodies P rest same stand =
       record {
         bodies = bodies;
@@ -41,22 +42,22 @@ module _ (jobs : ℕ) (before after : Durable) (seen : Image) (old : Image → T
       }
 
   -- calls on the other area, while the selected one is at rest
-  pub in_other : (area : FileNo) (bodies : List (List ℕ)) (P : List ℕ → Type 0) → area ≢ Chooser → selected seen ≡ area → IsDurable Chooser seen old → IsDurable area seen old → HasRestingGate (file_of area seen) bodies → BodiesStandForEither jobs before after bodies
-      → IsRecoverable jobs before after (InFileOnly (other_area area) old P)
+  pub in_other : (area : FileNo) (bodies : List (List ℕ)) (P : List ℕ → Type 0) → area ≢ Chooser → selected seen ≡ area → IsDurable Chooser seen old → IsDurable area seen old → HasRestingGate (file_of area seen) bodies → BodiesStandForEither size before after bodies
+      → IsRecoverable size before after (InFileOnly (other_area area) old P)
   in_other area bodies P differs is chooser durable rest stand =
-      one_area jobs before after (InFileOnly (other_area area) old P) area
+      one_area size before after (InFileOnly (other_area area) old P) area
       (λ image only. same_chooser image seen (others_as_seen Chooser (other_area area) (λ same. other_is_area area (sym same)) seen old P chooser image only) ∙ is)
       (at_rest area bodies (InFileOnly (other_area area) old P) rest (λ image only. others_as_seen area (other_area area) (λ same. other_differs area differs (sym same)) seen old P durable image only) stand)
 
   -- a write of the chooser, while both areas are at rest
   pub in_chooser : (area : FileNo) (bodies others : List (List ℕ)) (P : List ℕ → Type 0) → area ≢ Chooser → IsDurable area seen old → IsDurable (other_area area) seen old → HasRestingGate (file_of area seen) bodies → HasRestingGate (file_of (other_area area) seen) others
-      → BodiesStandForEither jobs before after bodies → BodiesStandForEither jobs before after others → IsRecoverable jobs before after (InFileOnly Chooser old P)
+      → BodiesStandForEither size before after bodies → BodiesStandForEither size before after others → IsRecoverable size before after (InFileOnly Chooser old P)
   in_chooser area bodies others P differs durable other rest other_rest stand other_stand =
-      two_areas jobs before after (InFileOnly Chooser old P) area differs
+      two_areas size before after (InFileOnly Chooser old P) area differs
       (at_rest area bodies (InFileOnly Chooser old P) rest (λ image only. others_as_seen area Chooser differs seen old P durable image only) stand)
       (at_rest (other_area area) others (InFileOnly Chooser old P) other_rest (λ image only. others_as_seen (other_area area) Chooser (other_is_area area) seen old P other image only) other_stand)
 
   -- nothing but what is read
-  pub at_rest_alone : (area : FileNo) (bodies : List (List ℕ)) → selected seen ≡ area → IsDurable Chooser seen old → IsDurable area seen old → HasRestingGate (file_of area seen) bodies → BodiesStandForEither jobs before after bodies → IsRecoverable jobs before after old
+  pub at_rest_alone : (area : FileNo) (bodies : List (List ℕ)) → selected seen ≡ area → IsDurable Chooser seen old → IsDurable area seen old → HasRestingGate (file_of area seen) bodies → BodiesStandForEither size before after bodies → IsRecoverable size before after old
   at_rest_alone area bodies is chooser durable rest stand =
-      one_area jobs before after old area (λ image left. same_chooser image seen (chooser image left) ∙ is) (at_rest area bodies old rest durable stand)
+      one_area size before after old area (λ image left. same_chooser image seen (chooser image left) ∙ is) (at_rest area bodies old rest durable stand)

@@ -1,6 +1,7 @@
 -- Which state the files of the image stand for that a stop within a save leaves.
 use Rattle.std.proofs.Common.{◌≡◌, ◌≢◌, ◌⊎◌, ⊎_elim, ℕ, ◌+◌, ◌*◌, ◌-◌, ◌<◌, ◌≤◌, List, [], ◌∷◌, ◌++◌, length, get_or, Option, Some, refl, sym, ap, ◌∙◌, subst, arith}
 use Rattle.std.proofs.lemmas.List.{get_or-take}
+use Rattle.paxos_base.specs.declared.rows.TableSize.{TableSize}
 use Rattle.disk_model.specs.declared.armed.Arm.{Arm}
 use Rattle.disk_model.specs.declared.fault.DiskFault.TheVariants.{Stopped}
 use Rattle.disk_model.specs.declared.fault.FileNo.{FileNo}
@@ -30,17 +31,17 @@ use Rattle.replica_store.proofs.StoppedLemmas.{StopsLater, hidden, none_breaks, 
 pub record_long : (item : Record) → length (record_bytes item) ≡ 56
 record_long item = refl
 
-pub stands_in : (jobs : ℕ) (kept : Durable) (image : Image) (area : FileNo) (bodies : List (List ℕ)) → selected image ≡ area → HasBodies (file_of area image) bodies → BodiesStand jobs bodies kept → FilesStand jobs kept image
-stands_in jobs kept image area bodies selects has stand =
+pub stands_in : (size : TableSize) (kept : Durable) (image : Image) (area : FileNo) (bodies : List (List ℕ)) → selected image ≡ area → HasBodies (file_of area image) bodies → BodiesStand size bodies kept → FilesStand size kept image
+stands_in size kept image area bodies selects has stand =
     record { bodies = bodies; has = subst (λ file. HasBodies (file_of file image) bodies) (sym selects) has; stand = stand }
 
 -- the image selects the area, and the files stand for what is kept
-pub record StandsIn (jobs : ℕ) (area : FileNo) (kept : Durable) (image : Image) : Type 0 where
+pub record StandsIn (size : TableSize) (area : FileNo) (kept : Durable) (image : Image) : Type 0 where
   pub selects : selected image ≡ area
-  pub stand : FilesStand jobs kept image
+  pub stand : FilesStand size kept image
 
-pub selects_in : (jobs : ℕ) (kept : Durable) (image : Image) (area : FileNo) (bodies : List (List ℕ)) → selected image ≡ area → HasBodies (file_of area image) bodies → BodiesStand jobs bodies kept → StandsIn jobs area kept image
-selects_in jobs kept image area bodies selects has stand = record { selects = selects; stand = stands_in jobs kept image area bodies selects has stand }
+pub selects_in : (size : TableSize) (kept : Durable) (image : Image) (area : FileNo) (bodies : List (List ℕ)) → selected image ≡ area → HasBodies (file_of area image) bodies → BodiesStand size bodies kept → StandsIn size area kept image
+selects_in size kept image area bodies selects has stand = record { selects = selects; stand = stands_in size kept image area bodies selects has stand }
 
 -- a gate that a file has open
 pub closed_has : (file : List ℕ) (bodies : List (List ℕ)) → AreOpen file bodies → (get_or file (57 * length bodies) 0 ≡ 1 → ⊥) → HasBodies file bodies
@@ -73,7 +74,7 @@ module _ (file body image : List ℕ) (bodies : List (List ℕ)) (gates : AreOpe
       (λ has. has)
       (staged_has image bodies (Some body) staged)
 
-module _ (jobs : ℕ) (area : FileNo) (kept : Durable) (own : Option ℕ) (change : Delta) (item : Record) (arm : Arm) (old new : Told) (save : StopsInSave jobs area kept own change arm old new) (is : delta_record change ≡ Some item) where
+module _ (size : TableSize) (area : FileNo) (kept : Durable) (own : Option ℕ) (change : Delta) (item : Record) (arm : Arm) (old new : Told) (save : StopsInSave size area kept own change arm old new) (is : delta_record change ≡ Some item) where
   abbrev body : List ℕ
   body = record_bytes item
 
@@ -108,16 +109,16 @@ module _ (jobs : ℕ) (area : FileNo) (kept : Durable) (own : Option ℕ) (chang
   within : gate + 1 ≤ length file
   within = omega (arith, save.ready.at_rest.tail_within)
 
-  body_pending : IsPending area (gate + 1) piece old new → StandsIn jobs area kept (image_left new)
+  body_pending : IsPending area (gate + 1) piece old new → StandsIn size area kept (image_left new)
   body_pending pending =
       let torn = torn_image (gate + 1) piece file (new.touched area) within (pending_touched area (gate + 1) piece old new pending save.ready.area_clean) arm.image in
       let bytes = pending_left area (gate + 1) piece old new pending save.ready.area_clean last armed in
-      selects_in jobs kept (image_left new) area save.records
+      selects_in size kept (image_left new) area save.records
       (selects (pending_clean area (gate + 1) piece old new pending Chooser (λ same. differs (sym same)) save.ready.chooser) (pending_same area (gate + 1) piece old new pending Chooser (λ same. differs (sym same))))
       (body_lost file piece (file_of area (image_left new)) save.records save.ready.at_rest (subst (Torn (gate + 1) (length piece) file) (sym bytes) torn))
       (own, save.stand)
 
-  pub record_early : arm.left < 2 → StandsIn jobs area kept (image_left new)
+  pub record_early : arm.left < 2 → StandsIn size area kept (image_left new)
   record_early few = ⊎_elim (λ stopped. body_pending stopped.1) (λ (later : StopsLater area (gate + 1) piece (synced_write area gate (1 ∷ [])) arm old new). absurd (omega (arith, later.two, few))) first
 
   -- the gate
@@ -149,19 +150,19 @@ module _ (jobs : ℕ) (area : FileNo) (kept : Durable) (own : Option ℕ) (chang
     closed_now : get_or now gate 0 ≡ 0
     closed_now = (mid_at_rest file body save.records save.ready.at_rest (record_long item) now later.synced.bytes).tail_closed
 
-    gate_hidden : (Shows (λ byte. byte ≡ 1) arm.image → ⊥) → StandsIn jobs area kept (image_left new)
+    gate_hidden : (Shows (λ byte. byte ≡ 1) arm.image → ⊥) → StandsIn size area kept (image_left new)
     gate_hidden not_shown =
         let shut = hidden arm.image gate 1 now (new.touched area) long_enough (pending_touched area gate (1 ∷ []) later.mid new pending later.synced.clean) (λ byte. byte ≡ 1) (zero_not_1 (get_or now gate 0) closed_now) not_shown in
-        selects_in jobs kept (image_left new) area save.records selects_now
+        selects_in size kept (image_left new) area save.records selects_now
         (subst (λ l. HasBodies l save.records) (sym bytes_now) (gate_lost now body _ save.records open_now behind_now torn_now shut))
         (own, save.stand)
 
-    gate_shown : IsRecord body item → Shows (λ byte. byte ≡ 1) arm.image → StandsIn jobs area (after_delta change kept) (image_left new)
+    gate_shown : IsRecord body item → Shows (λ byte. byte ≡ 1) arm.image → StandsIn size area (after_delta change kept) (image_left new)
     gate_shown record_is shows =
         let open_byte = shown arm.image gate 1 now (new.touched area) long_enough (pending_touched area gate (1 ∷ []) later.mid new pending later.synced.clean) (λ byte. byte ≡ 1) refl shows in
-        selects_in jobs (after_delta change kept) (image_left new) area (save.records ++ body ∷ []) selects_now
+        selects_in size (after_delta change kept) (image_left new) area (save.records ++ body ∷ []) selects_now
         (subst (λ l. HasBodies l (save.records ++ body ∷ [])) (sym bytes_now) (gate_kept now body _ save.records open_now behind_now torn_now open_byte))
-        (change_stands jobs save.records body item kept change (own, save.stand) save.follows is (λ has. record_is))
+        (change_stands size save.records body item kept change (own, save.stand) save.follows is (λ has. record_is))
 
   gate_pending : (later : StopsLater area (gate + 1) piece (synced_write area gate (1 ∷ [])) arm old new) → IsPending area gate (1 ∷ []) later.mid new
   gate_pending later =
@@ -170,10 +171,10 @@ module _ (jobs : ℕ) (area : FileNo) (kept : Durable) (own : Option ℕ) (chang
       (λ (none : StopsLater area gate (1 ∷ []) [] (record arm { left = arm.left - 1 - 1 }) later.mid new). absurd (none_breaks none.mid new none.stops))
       (stops_in_write area gate (1 ∷ []) [] (record arm { left = arm.left - 1 - 1 }) later.mid new later.runs later.armed later.stops)
 
-  pub record_lost : 2 ≤ arm.left → (Shows (λ byte. byte ≡ 1) arm.image → ⊥) → StandsIn jobs area kept (image_left new)
+  pub record_lost : 2 ≤ arm.left → (Shows (λ byte. byte ≡ 1) arm.image → ⊥) → StandsIn size area kept (image_left new)
   record_lost more not_shown = ⊎_elim (λ stopped. absurd (omega (arith, more, stopped.0))) (λ later. gate_hidden later (gate_pending later) not_shown) first
 
-  pub record_kept : IsRecord body item → 2 ≤ arm.left → Shows (λ byte. byte ≡ 1) arm.image → StandsIn jobs area (after_delta change kept) (image_left new)
+  pub record_kept : IsRecord body item → 2 ≤ arm.left → Shows (λ byte. byte ≡ 1) arm.image → StandsIn size area (after_delta change kept) (image_left new)
   record_kept record_is more shows = ⊎_elim (λ stopped. absurd (omega (arith, more, stopped.0))) (λ later. gate_shown later (gate_pending later) record_is shows) first
 
   pub record_area : selected (image_left new) ≡ area

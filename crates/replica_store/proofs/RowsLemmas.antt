@@ -2,6 +2,7 @@
 use Rattle.std.proofs.Common.{◌≡◌, inl, inr, ℕ, ◌<◌, ◌^◌, Option, None, Some, List, [], ◌∷◌, sym, subst, arith}
 use Rattle.std.specs.Prelude.{IfSome}
 use Rattle.std.specs.List.{filter_map, last_or}
+use Rattle.paxos_base.specs.declared.rows.TableSize.{TableSize}
 use Rattle.paxos_base.specs.declared.durable.Delta.{Delta}
 use Rattle.paxos_base.specs.declared.durable.Delta.TheVariants.{Tried, Promised, Voted, Base}
 use Rattle.paxos_base.specs.declared.durable.Durable.{Durable}
@@ -16,25 +17,25 @@ use Rattle.store_format.specs.Records.{AreRecords, tried_in}
 use Rattle.store_format.proofs.LogLemmas.{IsChangeLog-uncons, IsChangeLog-empty}
 use Rattle.store_format.proofs.SoundLemmas.{StandFor-sound}
 
-rows_change : (jobs : ℕ) (kept : Durable) (change : Delta) → RowsStand kept.rows jobs → ChangeMayFollow jobs kept change → RowsStand (after_delta change kept).rows jobs
+rows_change : (size : TableSize) (kept : Durable) (change : Delta) → RowsStand kept.rows size → ChangeMayFollow size kept change → RowsStand (after_delta change kept).rows size
 unfolding after_delta
-rows_change jobs kept (Tried ballot) stand may = stand
-rows_change jobs kept (Promised ballot) stand may = stand
-rows_change jobs kept (Voted vote) stand may = stand
-rows_change jobs kept (Base slot rows) stand may = may.1
+rows_change size kept (Tried ballot) stand may = stand
+rows_change size kept (Promised ballot) stand may = stand
+rows_change size kept (Voted vote) stand may = stand
+rows_change size kept (Base slot rows) stand may = may.1
 
-rows_log : (jobs : ℕ) (kept last : Durable) (items : List Record) → IsChangeLog jobs kept items last → RowsStand kept.rows jobs → RowsStand last.rows jobs
-rows_log jobs kept last [] log stand = subst (λ (k : Durable). RowsStand k.rows jobs) (sym (IsChangeLog-empty jobs kept last log)) stand
-rows_log jobs kept last (item ∷ items) log stand =
-    let parts = IsChangeLog-uncons jobs kept last item items log in
-    rows_log jobs (after_delta parts.change kept) last items parts.rest (rows_change jobs kept parts.change stand parts.may_follow)
+rows_log : (size : TableSize) (kept last : Durable) (items : List Record) → IsChangeLog size kept items last → RowsStand kept.rows size → RowsStand last.rows size
+rows_log size kept last [] log stand = subst (λ (k : Durable). RowsStand k.rows size) (sym (IsChangeLog-empty size kept last log)) stand
+rows_log size kept last (item ∷ items) log stand =
+    let parts = IsChangeLog-uncons size kept last item items log in
+    rows_log size (after_delta parts.change kept) last items parts.rest (rows_change size kept parts.change stand parts.may_follow)
 
-pub rows_stand : (jobs : ℕ) (items : List Record) (kept : Durable) → Stands jobs items kept → RowsStand kept.rows jobs
-rows_stand jobs items kept (inl log) = rows_log jobs (fresh_kept jobs) kept items log (RowsStand-fresh_rows jobs)
-rows_stand jobs items kept (inr base) = rows_log jobs (after_copy base.slot base.rows base.copy base.promised) kept base.log base.is_log base.rows_stand
+pub rows_stand : (size : TableSize) (items : List Record) (kept : Durable) → Stands size items kept → RowsStand kept.rows size
+rows_stand size items kept (inl log) = rows_log size (fresh_kept size) kept items log (RowsStand-fresh_rows size)
+rows_stand size items kept (inr base) = rows_log size (after_copy base.slot base.rows base.copy base.promised) kept base.log base.is_log base.rows_stand
 
-pub rows_found : (jobs : ℕ) (bodies : List (List ℕ)) (kept : Durable) (own : Option ℕ) → StandFor jobs bodies kept own → RowsStand kept.rows jobs
-rows_found jobs bodies kept own stand = rows_stand jobs stand.items kept stand.stands
+pub rows_found : (size : TableSize) (bodies : List (List ℕ)) (kept : Durable) (own : Option ℕ) → StandFor size bodies kept own → RowsStand kept.rows size
+rows_found size bodies kept own stand = rows_stand size stand.items kept stand.stands
 
 -- ---- the round of the replica's own ballot
 
@@ -52,6 +53,6 @@ round_fits : (own : Option ℕ) (tried : ℕ) → tried ≡ own_round own → If
 round_fits None tried is fits = omega (arith, is)
 round_fits (Some ballot) tried is fits = omega (arith, is, fits)
 
-pub tried_fits : (jobs : ℕ) (bodies : List (List ℕ)) (kept : Durable) (own : Option ℕ) → StandFor jobs bodies kept own → kept.tried < 2 ^ 61
-tried_fits jobs bodies kept own stand =
-    round_fits own kept.tried (StandFor-sound jobs bodies kept own stand).round (subst (λ o. IfSome o (λ ballot. ballot < 2 ^ 64)) (sym stand.own_is) (ballot_fits bodies stand.items None stand.are_records tt))
+pub tried_fits : (size : TableSize) (bodies : List (List ℕ)) (kept : Durable) (own : Option ℕ) → StandFor size bodies kept own → kept.tried < 2 ^ 61
+tried_fits size bodies kept own stand =
+    round_fits own kept.tried (StandFor-sound size bodies kept own stand).round (subst (λ o. IfSome o (λ ballot. ballot < 2 ^ 64)) (sym stand.own_is) (ballot_fits bodies stand.items None stand.are_records tt))

@@ -1,5 +1,6 @@
 -- A store between two calls, and runs of calls from there.
 use Rattle.std.proofs.Common.{◌≡◌, ◌≢◌, inl, inr, ℕ, ◌≤◌, List, [], ◌∷◌, ◌++◌, Some, sym, ap, ◌∙◌, subst}
+use Rattle.paxos_base.specs.declared.rows.TableSize.{TableSize}
 use Rattle.disk_model.specs.declared.fault.FileNo.{FileNo}
 use Rattle.disk_model.specs.declared.fault.FileNo.TheVariants.{Chooser}
 use Rattle.disk_model.specs.Images.{Image, file_of, OthersStay, InFile, HoldsPiece, IsDurable, InFileOnly}
@@ -23,20 +24,20 @@ use Rattle.replica_store.specs.Store.{StoreKeeps, IsStoreAtRest}
 use Rattle.replica_store.proofs.FileLemmas.{selects_area, byte_written, same_chooser, recoverable_stands, fewer_recoverable, other_differs, other_is_area}
 use Rattle.replica_store.proofs.ImageLemmas.{stays_durable, in_area, in_other, in_chooser, at_rest_alone}
 
-module _ {D : Type 0} (view : DiskView D) (jobs : ℕ) (before after : Durable) where
+module _ {D : Type 0} (view : DiskView D) (size : TableSize) (before after : Durable) where
   -- a run whose images are recoverable leaves what stands for one of the two states
-  pub run_stands : (old new : D) (Q : Image → Type 0) → IsRecoverable jobs before after Q → LeavesOnly view old new Q → LeavesOnly view old new (FilesStandForEither jobs before after)
-  run_stands old new Q recoverable run = leaves_weaker view old new Q (FilesStandForEither jobs before after) run (recoverable_stands jobs before after Q recoverable)
+  pub run_stands : (old new : D) (Q : Image → Type 0) → IsRecoverable size before after Q → LeavesOnly view old new Q → LeavesOnly view old new (FilesStandForEither size before after)
+  run_stands old new Q recoverable run = leaves_weaker view old new Q (FilesStandForEither size before after) run (recoverable_stands size before after Q recoverable)
 
   -- one run after another
-  pub two_runs : (old mid new : D) → LeavesOnly view old mid (FilesStandForEither jobs before after) → LeavesOnly view mid new (FilesStandForEither jobs before after)
-      → LeavesOnly view old new (FilesStandForEither jobs before after)
-  two_runs old mid new first second = follows_on view old mid new (FilesStandForEither jobs before after) (FilesStandForEither jobs before after) first second (λ image stands. stands)
+  pub two_runs : (old mid new : D) → LeavesOnly view old mid (FilesStandForEither size before after) → LeavesOnly view mid new (FilesStandForEither size before after)
+      → LeavesOnly view old new (FilesStandForEither size before after)
+  two_runs old mid new first second = follows_on view old mid new (FilesStandForEither size before after) (FilesStandForEither size before after) first second (λ image stands. stands)
 
   -- and so the disk is recoverable after it
-  pub run_recoverable : (old new : D) (Q : Image → Type 0) → ((start : ℕ) (image : Image) → start ≤ view.moment new → view.may_leave new image → view.left_since new start image) → IsRecoverable jobs before after Q
-      → LeavesOnly view old new Q → IsRecoverable jobs before after (view.may_leave new)
-  run_recoverable old new Q counts_now recoverable run = fewer_recoverable jobs before after Q (view.may_leave new) (now_in_run view old new Q counts_now run) recoverable
+  pub run_recoverable : (old new : D) (Q : Image → Type 0) → ((start : ℕ) (image : Image) → start ≤ view.moment new → view.may_leave new image → view.left_since new start image) → IsRecoverable size before after Q
+      → LeavesOnly view old new Q → IsRecoverable size before after (view.may_leave new)
+  run_recoverable old new Q counts_now recoverable run = fewer_recoverable size before after Q (view.may_leave new) (now_in_run view old new Q counts_now run) recoverable
 
 module _ {D : Type 0} (view : DiskView D) where
   -- a gated file in a file that isn't changed
@@ -52,25 +53,25 @@ module _ {D : Type 0} (view : DiskView D) where
     pub is_area : file_no store.gates ≢ Chooser
     is_area is = selects_area (view.seen disk) (rests.selects ∙ is)
 
-    pub append_recoverable : (kept after : Durable) (body : List ℕ) → StoreKeeps store kept → view.honest disk → BodiesStand store.jobs (bodies_of store.gates ++ body ∷ []) after
-        → IsRecoverable store.jobs kept after (InFileOnly (file_no store.gates) (view.may_leave disk) (IsStaged (bodies_of store.gates) (Some body)))
+    pub append_recoverable : (kept after : Durable) (body : List ℕ) → StoreKeeps store kept → view.honest disk → BodiesStand store.size (bodies_of store.gates ++ body ∷ []) after
+        → IsRecoverable store.size kept after (InFileOnly (file_no store.gates) (view.may_leave disk) (IsStaged (bodies_of store.gates) (Some body)))
     append_recoverable kept after body keeps is stand =
-        in_area store.jobs kept after (view.seen disk) (view.may_leave disk) (file_no store.gates) (bodies_of store.gates) (Some body) is_area rests.selects (rests.chooser is) (inl keeps) (inr stand)
+        in_area store.size kept after (view.seen disk) (view.may_leave disk) (file_no store.gates) (bodies_of store.gates) (Some body) is_area rests.selects (rests.chooser is) (inl keeps) (inr stand)
 
-    pub other_recoverable : (kept after : Durable) (P : List ℕ → Type 0) → StoreKeeps store kept → view.honest disk → IsRecoverable store.jobs kept after (InFileOnly (other_area (file_no store.gates)) (view.may_leave disk) P)
+    pub other_recoverable : (kept after : Durable) (P : List ℕ → Type 0) → StoreKeeps store kept → view.honest disk → IsRecoverable store.size kept after (InFileOnly (other_area (file_no store.gates)) (view.may_leave disk) P)
     other_recoverable kept after P keeps is =
-        in_other store.jobs kept after (view.seen disk) (view.may_leave disk) (file_no store.gates) (bodies_of store.gates) P is_area rests.selects (rests.chooser is) (rests.gates.durable is) rests.gates.at_rest (inl keeps)
+        in_other store.size kept after (view.seen disk) (view.may_leave disk) (file_no store.gates) (bodies_of store.gates) P is_area rests.selects (rests.chooser is) (rests.gates.durable is) rests.gates.at_rest (inl keeps)
 
-    pub chooser_recoverable : (kept after : Durable) (P : List ℕ → Type 0) (gates : GateFile) → file_no gates ≡ other_area (file_no store.gates) → IsFileAtRest view disk gates → StoreKeeps store kept → view.honest disk → BodiesStand store.jobs (bodies_of gates) after
-        → IsRecoverable store.jobs kept after (InFileOnly Chooser (view.may_leave disk) P)
+    pub chooser_recoverable : (kept after : Durable) (P : List ℕ → Type 0) (gates : GateFile) → file_no gates ≡ other_area (file_no store.gates) → IsFileAtRest view disk gates → StoreKeeps store kept → view.honest disk → BodiesStand store.size (bodies_of gates) after
+        → IsRecoverable store.size kept after (InFileOnly Chooser (view.may_leave disk) P)
     chooser_recoverable kept after P gates other others keeps is stand =
-        in_chooser store.jobs kept after (view.seen disk) (view.may_leave disk) (file_no store.gates) (bodies_of store.gates) (bodies_of gates) P is_area (rests.gates.durable is)
+        in_chooser store.size kept after (view.seen disk) (view.may_leave disk) (file_no store.gates) (bodies_of store.gates) (bodies_of gates) P is_area (rests.gates.durable is)
         (subst (λ file. IsDurable file (view.seen disk) (view.may_leave disk)) other (others.durable is)) rests.gates.at_rest
         (subst (λ file. HasRestingGate (file_of file (view.seen disk)) (bodies_of gates)) other others.at_rest) (inl keeps) (inr stand)
 
     -- a store at rest
-    pub rests_recoverable : (kept : Durable) → StoreKeeps store kept → view.honest disk → IsRecoverable store.jobs kept kept (view.may_leave disk)
-    rests_recoverable kept keeps is = at_rest_alone store.jobs kept kept (view.seen disk) (view.may_leave disk) (file_no store.gates) (bodies_of store.gates) rests.selects (rests.chooser is) (rests.gates.durable is) rests.gates.at_rest (inl keeps)
+    pub rests_recoverable : (kept : Durable) → StoreKeeps store kept → view.honest disk → IsRecoverable store.size kept kept (view.may_leave disk)
+    rests_recoverable kept keeps is = at_rest_alone store.size kept kept (view.seen disk) (view.may_leave disk) (file_no store.gates) (bodies_of store.gates) rests.selects (rests.chooser is) (rests.gates.durable is) rests.gates.at_rest (inl keeps)
 
     -- after calls on its area, which leave it at rest
     pub rests_in_area : (new : D) (now : Store) (P : List ℕ → Type 0) → (view.honest new → view.honest disk) → IsFileAtRest view new now.gates → file_no now.gates ≡ file_no store.gates → OthersStay (file_no store.gates) (view.seen disk) (view.seen new)
@@ -130,7 +131,7 @@ change_has_cursor (Voted vote) item is = subst RowHasCursor (same_item (Record.V
 change_has_cursor (Base slot rows) item is = absurd (cc is)
 
 -- the bodies stand for the state after the change, once its record is behind them
-pub change_stands : (jobs : ℕ) (bodies : List (List ℕ)) (body : List ℕ) (item : Record) (kept : Durable) (change : Delta) → BodiesStand jobs bodies kept → ChangeMayFollow jobs kept change → delta_record change ≡ Some item → (RowHasCursor item → IsRecord body item)
-    → BodiesStand jobs (bodies ++ body ∷ []) (after_delta change kept)
-change_stands jobs bodies body item kept change stand follows is record_of =
-    (own_after change stand.0, StandFor-change jobs bodies body item kept stand.0 change stand.1 follows is (record_of (change_has_cursor change item is)))
+pub change_stands : (size : TableSize) (bodies : List (List ℕ)) (body : List ℕ) (item : Record) (kept : Durable) (change : Delta) → BodiesStand size bodies kept → ChangeMayFollow size kept change → delta_record change ≡ Some item → (RowHasCursor item → IsRecord body item)
+    → BodiesStand size (bodies ++ body ∷ []) (after_delta change kept)
+change_stands size bodies body item kept change stand follows is record_of =
+    (own_after change stand.0, StandFor-change size bodies body item kept stand.0 change stand.1 follows is (record_of (change_has_cursor change item is)))

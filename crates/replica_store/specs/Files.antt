@@ -1,6 +1,7 @@
 -- What the files of a replica's disk stand for, and from what a replica can go on.
 -- Source: docs/WIRE.md; the disk from which a replica can go on is this project's.
 use Rattle.std.specs.Prelude.{◌≢◌, ◌⊎◌, ℕ, ◌%◌, ◌==◌, if◌then◌else◌, List, [], ◌∷◌, ◌++◌, get_or, Option, IfSome}
+use Rattle.paxos_base.specs.declared.rows.TableSize.{TableSize}
 use Rattle.disk_model.specs.declared.fault.FileNo.{FileNo}
 use Rattle.disk_model.specs.declared.fault.FileNo.TheVariants.{AreaA, AreaB}
 use Rattle.disk_model.specs.Images.{Image, file_of, AllHave}
@@ -27,31 +28,31 @@ other_area AreaA = AreaB
 other_area _ = AreaA
 
 -- bodies stand for what is kept, whichever ballot is the replica's own
-abbrev pub BodiesStand : ℕ → List (List ℕ) → Durable → Type 0
-BodiesStand jobs bodies kept = (own : Option ℕ) × StandFor jobs bodies kept own
+abbrev pub BodiesStand : TableSize → List (List ℕ) → Durable → Type 0
+BodiesStand size bodies kept = (own : Option ℕ) × StandFor size bodies kept own
 
 -- The files stand for what is kept: the bodies of the area that the chooser selects do.
-pub record FilesStand (jobs : ℕ) (kept : Durable) (image : Image) : Type 0 where
+pub record FilesStand (size : TableSize) (kept : Durable) (image : Image) : Type 0 where
   pub bodies : List (List ℕ)
   pub has : HasBodies (file_of (selected image) image) bodies
-  pub stand : BodiesStand jobs bodies kept
+  pub stand : BodiesStand size bodies kept
 
 -- the files stand for one of two states
-abbrev pub FilesStandForEither : ℕ → Durable → Durable → Image → Type 0
-FilesStandForEither jobs before after image = FilesStand jobs before image ⊎ FilesStand jobs after image
+abbrev pub FilesStandForEither : TableSize → Durable → Durable → Image → Type 0
+FilesStandForEither size before after image = FilesStand size before image ⊎ FilesStand size after image
 
 -- bodies stand for one of two states
-abbrev pub BodiesStandForEither : ℕ → Durable → Durable → List (List ℕ) → Type 0
-BodiesStandForEither jobs before after bodies = BodiesStand jobs bodies before ⊎ BodiesStand jobs bodies after
+abbrev pub BodiesStandForEither : TableSize → Durable → Durable → List (List ℕ) → Type 0
+BodiesStandForEither size before after bodies = BodiesStand size bodies before ⊎ BodiesStand size bodies after
 
 -- Whatever a stop leaves, the file has bodies that stand for one of two states, with a pending body, where there is one, or
 -- without.
-pub record IsAreaStaged (jobs : ℕ) (before after : Durable) (file : FileNo) (may_leave : Image → Type 0) : Type 0 where
+pub record IsAreaStaged (size : TableSize) (before after : Durable) (file : FileNo) (may_leave : Image → Type 0) : Type 0 where
   pub bodies : List (List ℕ)
   pub pending : Option (List ℕ)
   pub staged : AllHave file (IsStaged bodies pending) may_leave
-  pub without : BodiesStandForEither jobs before after bodies
-  pub with_it : IfSome pending (λ body. BodiesStandForEither jobs before after (bodies ++ body ∷ []))
+  pub without : BodiesStandForEither size before after bodies
+  pub with_it : IfSome pending (λ body. BodiesStandForEither size before after (bodies ++ body ∷ []))
 
 -- no stop leaves a chooser that selects the file
 abbrev pub IsNeverSelected : FileNo → (Image → Type 0) → Type 0
@@ -59,6 +60,6 @@ IsNeverSelected file may_leave = (image : Image) → may_leave image → selecte
 
 -- A replica can go on from whatever a stop leaves, with the state before a change or after it: each file that may be
 -- selected stands for one of them, and so it does where a later call is cut short.
-abbrev pub IsRecoverable : ℕ → Durable → Durable → (Image → Type 0) → Type 0
-IsRecoverable jobs before after may_leave =
-    (file : FileNo) → IsNeverSelected file may_leave ⊎ IsAreaStaged jobs before after file may_leave
+abbrev pub IsRecoverable : TableSize → Durable → Durable → (Image → Type 0) → Type 0
+IsRecoverable size before after may_leave =
+    (file : FileNo) → IsNeverSelected file may_leave ⊎ IsAreaStaged size before after file may_leave

@@ -1,5 +1,6 @@
 -- Whether a change that was being saved is kept, where an armed disk stops within the save.
 use Rattle.std.specs.Prelude.{◌≡◌, ◌⊎◌, ℕ, ◌%◌, ◌/◌, false, Option, Some, List, length}
+use Rattle.paxos_base.specs.declared.rows.TableSize.{TableSize}
 use Rattle.disk_model.specs.declared.armed.Arm.{Arm}
 use Rattle.disk_model.specs.declared.fault.DiskFault.TheVariants.{Stopped}
 use Rattle.disk_model.specs.declared.fault.FileNo.{FileNo}
@@ -31,11 +32,11 @@ pub record IsReady (area : FileNo) (records : List (List ℕ)) (told : Told) : T
 
 -- The disk was armed and stopped within the save of a change: a store kept this, with the replica's own ballot, in records of
 -- the area, and some of the calls of the save were done, and a stop came within the next one.
-pub record StopsInSave (jobs : ℕ) (area : FileNo) (kept : Durable) (own : Option ℕ) (change : Delta) (arm : Arm) (old new : Told) : Type 0 where
+pub record StopsInSave (size : TableSize) (area : FileNo) (kept : Durable) (own : Option ℕ) (change : Delta) (arm : Arm) (old new : Told) : Type 0 where
   pub records : List (List ℕ)
   pub ready : IsReady area records old
-  pub stand : StandFor jobs records kept own
-  pub follows : ChangeMayFollow jobs kept change
+  pub stand : StandFor size records kept own
+  pub follows : ChangeMayFollow size kept change
   pub armed : old.arm ≡ Some arm
   pub stops : BreaksOff Stopped (save_calls area (length records) kept own change) old new
 

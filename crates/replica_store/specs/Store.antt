@@ -6,12 +6,13 @@ use Rattle.disk_model.specs.Images.{IsDurable}
 use Rattle.disk_model.specs.View.{DiskView}
 use Rattle.gate_file.specs.File.{file_no, bodies_of, IsFileAtRest}
 use Rattle.paxos_base.specs.declared.durable.Durable.{Durable}
+use Rattle.paxos_base.specs.declared.rows.TableSize.{TableSize}
 use Rattle.replica_store.specs.declared.store.Store.{Store}
 use Rattle.replica_store.specs.Files.{selected, BodiesStand}
 
--- how many jobs the store's table has
-abbrev pub jobs_of_store : Store → ℕ
-jobs_of_store store = store.jobs
+-- how large the store's table is
+abbrev pub size_of_store : Store → TableSize
+size_of_store store = store.size
 
 -- the area that has its records
 abbrev pub area_of : Store → FileNo
@@ -23,7 +24,7 @@ records_of store = bodies_of store.gates
 
 -- what the store's records stand for is this
 abbrev pub StoreKeeps : Store → Durable → Type 0
-StoreKeeps store kept = BodiesStand store.jobs (bodies_of store.gates) kept
+StoreKeeps store kept = BodiesStand store.size (bodies_of store.gates) kept
 
 -- The disk's files are as the last call of the store left them: the chooser selects the store's area, which is at rest with
 -- its records, whatever a stop does, and these stand for some state.

@@ -1,4 +1,5 @@
 ghost use Rattle.std.specs.Prelude.{◌≡◌, ◌↔◌, ◌<◌, ◌≤◌, ℕ, true, false, Option, Some, List, [], length, map};
+ghost use Rattle.paxos_base.specs.declared.rows.TableSize.{TableSize};
 ghost use Rattle.disk_model.specs.declared.armed.Arm.{Arm};
 ghost use Rattle.disk_model.specs.declared.fault.FileNo.{FileNo};
 ghost use Rattle.disk_model.specs.declared.fault.FileNo.TheVariants.{Chooser};
@@ -19,37 +20,37 @@ ghost use Rattle.replica_store.specs.declared.store.Store.{Store};
 ghost use Rattle.replica_store.specs.Files.{selected, selected_by, other_area, BodiesStand, FilesStand, FilesStandForEither, IsRecoverable};
 ghost use Rattle.replica_store.specs.Kept.{IsClean, IsReady, StopsInSave, Shows};
 ghost use Rattle.replica_store.specs.Made.{attach_calls, save_calls, area_after};
-ghost use Rattle.replica_store.specs.Store.{jobs_of_store, area_of, records_of, StoreKeeps, IsStoreAtRest};
+ghost use Rattle.replica_store.specs.Store.{size_of_store, area_of, records_of, StoreKeeps, IsStoreAtRest};
 
 use disk_model::Disk;
 
 /// A law, with nothing to run: files stand for one state at most, and a store keeps one.
 pub fn files_stand_for_one_state()
-    ensures files { (jobs : ℕ) (image : Image) (one other : Durable) → FilesStand jobs one image → FilesStand jobs other image → one ≡ other }
+    ensures files { (size : TableSize) (image : Image) (one other : Durable) → FilesStand size one image → FilesStand size other image → one ≡ other }
     ensures store { (store : Store) (one other : Durable) → StoreKeeps store one → StoreKeeps store other → one ≡ other }
 {}
 
 /// A law, with nothing to run: an empty disk stands for the fresh state, and is recoverable with it.
 pub fn an_empty_disk_is_recoverable<D: Disk>()
-    ensures stands { (jobs : ℕ) (image : Image) → ((file : FileNo) → file_of file image ≡ []) → FilesStand jobs (fresh_kept jobs) image }
-    ensures recoverable { (disk : D) (jobs : ℕ) → ((image : Image) → D.view.may_leave disk image → (file : FileNo) → file_of file image ≡ [])
-        → IsRecoverable jobs (fresh_kept jobs) (fresh_kept jobs) (D.view.may_leave disk) }
+    ensures stands { (size : TableSize) (image : Image) → ((file : FileNo) → file_of file image ≡ []) → FilesStand size (fresh_kept size) image }
+    ensures recoverable { (disk : D) (size : TableSize) → ((image : Image) → D.view.may_leave disk image → (file : FileNo) → file_of file image ≡ [])
+        → IsRecoverable size (fresh_kept size) (fresh_kept size) (D.view.may_leave disk) }
 {}
 
 /// A law, with nothing to run: each image that a stop may leave of a recoverable disk stands for one of its two states, and
 /// the disk is recoverable from there.
 pub fn a_stop_leaves_one_of_two_states<D: Disk>()
-    ensures stands { (disk : D) (jobs : ℕ) (before after : Durable) (image : Image)
-        → IsRecoverable jobs before after (D.view.may_leave disk) → D.view.may_leave disk image → FilesStandForEither jobs before after image }
-    ensures recoverable { (disk left : D) (jobs : ℕ) (before after : Durable)
-        → IsRecoverable jobs before after (D.view.may_leave disk) → NoNewImage (D.view.may_leave disk) (D.view.may_leave left)
-        → IsRecoverable jobs before after (D.view.may_leave left) }
+    ensures stands { (disk : D) (size : TableSize) (before after : Durable) (image : Image)
+        → IsRecoverable size before after (D.view.may_leave disk) → D.view.may_leave disk image → FilesStandForEither size before after image }
+    ensures recoverable { (disk left : D) (size : TableSize) (before after : Durable)
+        → IsRecoverable size before after (D.view.may_leave disk) → NoNewImage (D.view.may_leave disk) (D.view.may_leave left)
+        → IsRecoverable size before after (D.view.may_leave left) }
 {}
 
 /// A law, with nothing to run: between two calls of a store, whatever a stop leaves stands for the one state that it keeps.
 pub fn a_store_at_rest_is_recoverable<D: Disk>()
     ensures { (disk : D) (store : Store) (kept : Durable) → D.view.honest disk → IsStoreAtRest D.view disk store → StoreKeeps store kept
-        → IsRecoverable (jobs_of_store store) kept kept (D.view.may_leave disk) }
+        → IsRecoverable (size_of_store store) kept kept (D.view.may_leave disk) }
 {}
 
 /// A law, with nothing to run: a store at rest stays so while a disk's files stay as they are, as through the calls of
@@ -63,27 +64,27 @@ pub fn a_store_at_rest_stays_so<D: Disk>()
 /// A law, with nothing to run: a disk is recoverable with the state that its files stand for, where the chooser and the
 /// selected area are synced, and a byte 0 stands at the tail gate of that area.
 pub fn synced_files_are_recoverable<D: Disk>()
-    ensures { (disk : D) (jobs : ℕ) (records : List (List ℕ)) (kept : Durable)
+    ensures { (disk : D) (size : TableSize) (records : List (List ℕ)) (kept : Durable)
         → IsDurable Chooser (D.view.seen disk) (D.view.may_leave disk) → IsDurable (selected (D.view.seen disk)) (D.view.seen disk) (D.view.may_leave disk)
-        → HasRestingGate (file_of (selected (D.view.seen disk)) (D.view.seen disk)) records → BodiesStand jobs records kept
-        → IsRecoverable jobs kept kept (D.view.may_leave disk) }
+        → HasRestingGate (file_of (selected (D.view.seen disk)) (D.view.seen disk)) records → BodiesStand size records kept
+        → IsRecoverable size kept kept (D.view.may_leave disk) }
 {}
 
 /// A law, with nothing to run: whether a change is kept that a record saves, where an armed disk stops within the save. A
 /// stop within the first two calls, which put the record behind its gate, leaves the state before the change. One within the
 /// last two, which open the gate, keeps the change exactly where the image shows the gate's byte as 1. The same area is in use.
 pub fn a_stop_may_keep_a_record()
-    ensures early { (jobs : ℕ) (area : FileNo) (kept : Durable) (own : Option ℕ) (change : Delta) (item : Record) (arm : Arm) (old new : Told)
-        → StopsInSave jobs area kept own change arm old new → delta_record change ≡ Some item
-        → arm.left < 2 → FilesStand jobs kept (image_left new) }
-    ensures lost { (jobs : ℕ) (area : FileNo) (kept : Durable) (own : Option ℕ) (change : Delta) (item : Record) (arm : Arm) (old new : Told)
-        → StopsInSave jobs area kept own change arm old new → delta_record change ≡ Some item
-        → 2 ≤ arm.left → (Shows (λ byte. byte ≡ 1) arm.image → ⊥) → FilesStand jobs kept (image_left new) }
-    ensures saved { (jobs : ℕ) (area : FileNo) (kept : Durable) (own : Option ℕ) (change : Delta) (item : Record) (arm : Arm) (old new : Told)
-        → StopsInSave jobs area kept own change arm old new → delta_record change ≡ Some item → IsRecord (record_bytes item) item
-        → 2 ≤ arm.left → Shows (λ byte. byte ≡ 1) arm.image → FilesStand jobs (after_delta change kept) (image_left new) }
-    ensures area { (jobs : ℕ) (area : FileNo) (kept : Durable) (own : Option ℕ) (change : Delta) (item : Record) (arm : Arm) (old new : Told)
-        → StopsInSave jobs area kept own change arm old new → delta_record change ≡ Some item → selected (image_left new) ≡ area }
+    ensures early { (size : TableSize) (area : FileNo) (kept : Durable) (own : Option ℕ) (change : Delta) (item : Record) (arm : Arm) (old new : Told)
+        → StopsInSave size area kept own change arm old new → delta_record change ≡ Some item
+        → arm.left < 2 → FilesStand size kept (image_left new) }
+    ensures lost { (size : TableSize) (area : FileNo) (kept : Durable) (own : Option ℕ) (change : Delta) (item : Record) (arm : Arm) (old new : Told)
+        → StopsInSave size area kept own change arm old new → delta_record change ≡ Some item
+        → 2 ≤ arm.left → (Shows (λ byte. byte ≡ 1) arm.image → ⊥) → FilesStand size kept (image_left new) }
+    ensures saved { (size : TableSize) (area : FileNo) (kept : Durable) (own : Option ℕ) (change : Delta) (item : Record) (arm : Arm) (old new : Told)
+        → StopsInSave size area kept own change arm old new → delta_record change ≡ Some item → IsRecord (record_bytes item) item
+        → 2 ≤ arm.left → Shows (λ byte. byte ≡ 1) arm.image → FilesStand size (after_delta change kept) (image_left new) }
+    ensures area { (size : TableSize) (area : FileNo) (kept : Durable) (own : Option ℕ) (change : Delta) (item : Record) (arm : Arm) (old new : Told)
+        → StopsInSave size area kept own change arm old new → delta_record change ≡ Some item → selected (image_left new) ≡ area }
 {}
 
 /// A law, with nothing to run: whether a base is kept, where an armed disk stops within its save. A stop within the first
@@ -91,24 +92,24 @@ pub fn a_stop_may_keep_a_record()
 /// chooser's byte, keeps the base exactly where the image shows a byte that selects the other area. That area is in use where
 /// the base is kept, and else the same as before.
 pub fn a_stop_may_keep_a_base()
-    ensures early { (jobs : ℕ) (area : FileNo) (kept : Durable) (own : Option ℕ) (slot : ℕ) (rows : List JobRow) (arm : Arm) (old new : Told)
-        → StopsInSave jobs area kept own (Base slot rows) arm old new
-        → arm.left < 3 → FilesStand jobs kept (image_left new) }
-    ensures lost { (jobs : ℕ) (area : FileNo) (kept : Durable) (own : Option ℕ) (slot : ℕ) (rows : List JobRow) (arm : Arm) (old new : Told)
-        → StopsInSave jobs area kept own (Base slot rows) arm old new
-        → 3 ≤ arm.left → (Shows (λ byte. selected_by byte ≡ other_area area) arm.image → ⊥) → FilesStand jobs kept (image_left new) }
-    ensures saved { (jobs : ℕ) (area : FileNo) (kept : Durable) (own : Option ℕ) (slot : ℕ) (rows : List JobRow) (arm : Arm) (old new : Told)
-        → StopsInSave jobs area kept own (Base slot rows) arm old new
+    ensures early { (size : TableSize) (area : FileNo) (kept : Durable) (own : Option ℕ) (slot : ℕ) (rows : List JobRow) (arm : Arm) (old new : Told)
+        → StopsInSave size area kept own (Base slot rows) arm old new
+        → arm.left < 3 → FilesStand size kept (image_left new) }
+    ensures lost { (size : TableSize) (area : FileNo) (kept : Durable) (own : Option ℕ) (slot : ℕ) (rows : List JobRow) (arm : Arm) (old new : Told)
+        → StopsInSave size area kept own (Base slot rows) arm old new
+        → 3 ≤ arm.left → (Shows (λ byte. selected_by byte ≡ other_area area) arm.image → ⊥) → FilesStand size kept (image_left new) }
+    ensures saved { (size : TableSize) (area : FileNo) (kept : Durable) (own : Option ℕ) (slot : ℕ) (rows : List JobRow) (arm : Arm) (old new : Told)
+        → StopsInSave size area kept own (Base slot rows) arm old new
         → AreRecords (map record_bytes (base_records kept own slot rows)) (base_records kept own slot rows)
-        → 3 ≤ arm.left → Shows (λ byte. selected_by byte ≡ other_area area) arm.image → FilesStand jobs (after_delta (Base slot rows) kept) (image_left new) }
-    ensures early_area { (jobs : ℕ) (area : FileNo) (kept : Durable) (own : Option ℕ) (slot : ℕ) (rows : List JobRow) (arm : Arm) (old new : Told)
-        → StopsInSave jobs area kept own (Base slot rows) arm old new
+        → 3 ≤ arm.left → Shows (λ byte. selected_by byte ≡ other_area area) arm.image → FilesStand size (after_delta (Base slot rows) kept) (image_left new) }
+    ensures early_area { (size : TableSize) (area : FileNo) (kept : Durable) (own : Option ℕ) (slot : ℕ) (rows : List JobRow) (arm : Arm) (old new : Told)
+        → StopsInSave size area kept own (Base slot rows) arm old new
         → arm.left < 3 → selected (image_left new) ≡ area }
-    ensures lost_area { (jobs : ℕ) (area : FileNo) (kept : Durable) (own : Option ℕ) (slot : ℕ) (rows : List JobRow) (arm : Arm) (old new : Told)
-        → StopsInSave jobs area kept own (Base slot rows) arm old new
+    ensures lost_area { (size : TableSize) (area : FileNo) (kept : Durable) (own : Option ℕ) (slot : ℕ) (rows : List JobRow) (arm : Arm) (old new : Told)
+        → StopsInSave size area kept own (Base slot rows) arm old new
         → 3 ≤ arm.left → (Shows (λ byte. selected_by byte ≡ other_area area) arm.image → ⊥) → selected (image_left new) ≡ area }
-    ensures saved_area { (jobs : ℕ) (area : FileNo) (kept : Durable) (own : Option ℕ) (slot : ℕ) (rows : List JobRow) (arm : Arm) (old new : Told)
-        → StopsInSave jobs area kept own (Base slot rows) arm old new
+    ensures saved_area { (size : TableSize) (area : FileNo) (kept : Durable) (own : Option ℕ) (slot : ℕ) (rows : List JobRow) (arm : Arm) (old new : Told)
+        → StopsInSave size area kept own (Base slot rows) arm old new
         → 3 ≤ arm.left → Shows (λ byte. selected_by byte ≡ other_area area) arm.image → selected (image_left new) ≡ other_area area }
 {}
 

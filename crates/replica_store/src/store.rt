@@ -1,4 +1,5 @@
 ghost use Rattle.std.specs.Prelude.{◌≡◌, ◌↔◌, ◌⊎◌, ◌<◌, ◌^◌, ⊤, ℕ, List, length, map, Option, Some, Ok, Err, IfOk, OnOk, OnErr, IsErrOf};
+ghost use Rattle.paxos_base.specs.declared.rows.TableSize.{TableSize};
 ghost use Rattle.disk_model.specs.Images.{file_of, OthersStay, NoNewImage, InFileOnly};
 ghost use Rattle.gate_file.specs.File.{file_no, bodies_of, IsFileAtRest};
 ghost use Rattle.disk_model.specs.Made.{AllDone, MadeCalls};
@@ -25,7 +26,7 @@ use crate::chooser::{bit_of, other_area, select};
 use crate::fault::StoreFault;
 use disk_model::{Disk, FileNo, write_synced};
 use gate_file::{GateFile, ReadGates};
-use paxos_base::{Delta, Durable, RowList};
+use paxos_base::{Delta, Durable, RowList, TableSize};
 use std::alloc::Global;
 use store_format::{delta_record, read_records, record_bytes, write_base};
 
@@ -33,14 +34,14 @@ use store_format::{delta_record, read_records, record_bytes, write_base};
 #[derive(Debug, Drop)]
 pub struct Store {
     alloc: Global,
-    jobs: u32,
+    size: TableSize,
     gates: GateFile,
 }
 
 impl Store {
-    ghost use Rattle.replica_store.specs.Store.{jobs_of_store, area_of, records_of, StoreKeeps, IsStoreAtRest};
+    ghost use Rattle.replica_store.specs.Store.{size_of_store, area_of, records_of, StoreKeeps, IsStoreAtRest};
 
-    /// Attaches the files of a disk, of a table of that many jobs, and says what they stand for. What an earlier call that
+    /// Attaches the files of a disk, of a table of that size, and says what they stand for. What an earlier call that
     /// failed left is decided here.
     ///
     /// # Errors
@@ -49,14 +50,14 @@ impl Store {
     pub fn attach<D: Disk>(
         alloc: Global,
         disk: &mut D,
-        jobs: u32,
+        size: TableSize,
     ) -> Result<(Store, Durable), StoreFault>
         ensures rests { IfOk result (λ found. IsStoreAtRest D.view disk.new found.0) }
-        ensures jobs { IfOk result (λ found. jobs_of_store found.0 ≡ jobs) }
+        ensures size { IfOk result (λ found. size_of_store found.0 ≡ size) }
         ensures keeps { IfOk result (λ found. StoreKeeps found.0 found.1) }
-        ensures stand { IfOk result (λ found. FilesStand jobs found.1 (D.view.seen disk.old)) }
+        ensures stand { IfOk result (λ found. FilesStand size found.1 (D.view.seen disk.old)) }
         // So a replica can start with it.
-        ensures rows { IfOk result (λ found. RowsStand found.1.rows jobs) }
+        ensures rows { IfOk result (λ found. RowsStand found.1.rows size) }
         ensures tried { IfOk result (λ found. found.1.tried < 2 ^ 61) }
         ensures area { IfOk result (λ found. area_of found.0 ≡ selected (D.view.seen disk.old)) }
         // The chooser and the other area stay as they are.
@@ -67,18 +68,18 @@ impl Store {
 
         // From a disk that was recoverable, with the state before a change or after it, one of the two is found; whatever a
         // stop within this call leaves stands for one of them, and the disk stays recoverable.
-        ensures either { (before after : Durable) → D.view.honest disk.old → IsRecoverable jobs before after (D.view.may_leave disk.old)
+        ensures either { (before after : Durable) → D.view.honest disk.old → IsRecoverable size before after (D.view.may_leave disk.old)
             → IfOk result (λ found. (found.1 ≡ before) ⊎ (found.1 ≡ after)) }
-        ensures sound { (before after : Durable) (gate : ℕ) → D.view.honest disk.old → IsRecoverable jobs before after (D.view.may_leave disk.old)
+        ensures sound { (before after : Durable) (gate : ℕ) → D.view.honest disk.old → IsRecoverable size before after (D.view.may_leave disk.old)
             → result ≡ Err (Damaged gate) → ⊥ }
-        ensures images { (before after : Durable) → D.view.honest disk.old → IsRecoverable jobs before after (D.view.may_leave disk.old)
-            → LeavesOnly D.view disk.old disk.new (FilesStandForEither jobs before after) }
-        ensures recoverable { (before after : Durable) → D.view.honest disk.old → IsRecoverable jobs before after (D.view.may_leave disk.old)
-            → IsRecoverable jobs before after (D.view.may_leave disk.new) }
+        ensures images { (before after : Durable) → D.view.honest disk.old → IsRecoverable size before after (D.view.may_leave disk.old)
+            → LeavesOnly D.view disk.old disk.new (FilesStandForEither size before after) }
+        ensures recoverable { (before after : Durable) → D.view.honest disk.old → IsRecoverable size before after (D.view.may_leave disk.old)
+            → IsRecoverable size before after (D.view.may_leave disk.new) }
 
         ensures damaged { (gate : ℕ) (bodies : List (List ℕ)) → result ≡ Err (Damaged gate)
             → HasBodies (file_of (selected (D.view.seen disk.old)) (D.view.seen disk.old)) bodies
-            → IsFirstRecordAtFault jobs bodies gate }
+            → IsFirstRecordAtFault size bodies gate }
         ensures unwritten { (gate : ℕ) → result ≡ Err (Damaged gate) → D.view.seen disk.new ≡ D.view.seen disk.old }
         ensures damaged_image { (gate : ℕ) → result ≡ Err (Damaged gate) → D.view.honest disk.old
             → NoNewImage (D.view.may_leave disk.old) (D.view.may_leave disk.new) }
@@ -93,9 +94,9 @@ impl Store {
     {
         let area = select(disk)?;
         let read = ReadGates::read(alloc, disk, area)?;
-        let (kept, _) = read_records(alloc, jobs, read.bodies())?;
+        let (kept, _) = read_records(alloc, size, read.bodies())?;
         let gates = read.close(disk)?;
-        Ok((Store { alloc, jobs, gates }, kept))
+        Ok((Store { alloc, size, gates }, kept))
     }
 
     /// Saves a change. At `Ok` the files stand for the state after it, whatever a stop does.
@@ -110,17 +111,17 @@ impl Store {
     /// can go on. `Damaged` never.
     pub fn save<D: Disk>(&mut self, disk: &mut D, delta: &Delta) -> Result<(), StoreFault>
         requires rests { IsStoreAtRest D.view disk.old self.old }
-        requires follows { (kept : Durable) → StoreKeeps self.old kept → ChangeMayFollow (jobs_of_store self.old) kept delta.now }
+        requires follows { (kept : Durable) → StoreKeeps self.old kept → ChangeMayFollow (size_of_store self.old) kept delta.now }
         ensures rests { OnOk result (IsStoreAtRest D.view disk.new self.new) }
         ensures keeps { (kept : Durable) → StoreKeeps self.old kept → OnOk result (StoreKeeps self.new (after_delta delta.now kept)) }
-        ensures jobs { jobs_of_store self.new ≡ jobs_of_store self.old }
+        ensures size { size_of_store self.new ≡ size_of_store self.old }
 
         // Whatever a stop within the call leaves stands for the state before the change or for the one after it, and whatever
         // the answer is, the disk is recoverable with one of the two.
         ensures images { (kept : Durable) → StoreKeeps self.old kept → D.view.honest disk.old
-            → LeavesOnly D.view disk.old disk.new (FilesStandForEither (jobs_of_store self.old) kept (after_delta delta.now kept)) }
+            → LeavesOnly D.view disk.old disk.new (FilesStandForEither (size_of_store self.old) kept (after_delta delta.now kept)) }
         ensures recoverable { (kept : Durable) → StoreKeeps self.old kept → D.view.honest disk.old
-            → IsRecoverable (jobs_of_store self.old) kept (after_delta delta.now kept) (D.view.may_leave disk.new) }
+            → IsRecoverable (size_of_store self.old) kept (after_delta delta.now kept) (D.view.may_leave disk.new) }
 
         ensures memory { IsErrOf result OutOfMemory → IsStoreAtRest D.view disk.new self.new }
         ensures memory_keeps { (kept : Durable) → StoreKeeps self.old kept → IsErrOf result OutOfMemory → StoreKeeps self.new kept }
@@ -128,13 +129,13 @@ impl Store {
         // It goes on in its area, and after a base in the other one.
         ensures area { OnOk result (area_of self.new ≡ area_after delta.now (area_of self.old)) }
         ensures same_area { OnErr result (area_of self.new ≡ area_of self.old) }
-        ensures told { (kept : Durable) (own : Option ℕ) → StandFor (jobs_of_store self.old) (records_of self.old) kept own
+        ensures told { (kept : Durable) (own : Option ℕ) → StandFor (size_of_store self.old) (records_of self.old) kept own
             → TellsThen (MadeCalls of_disk (save_calls (area_of self.old) (length (records_of self.old)) kept own delta.now) result)
             (D.view.told disk.old) (D.view.told disk.new) }
         // What is said of a stop within it asks that its records are spelled.
         ensures spelled { (item : Record) → delta_record delta.now ≡ Some item → IsRecord (record_bytes item) item }
         ensures base_spelled { (kept : Durable) (own : Option ℕ) (slot : ℕ) (rows : List JobRow)
-            → StandFor (jobs_of_store self.old) (records_of self.old) kept own
+            → StandFor (size_of_store self.old) (records_of self.old) kept own
             → delta.now ≡ Base slot rows → IsErrOf result Stopped
             → AreRecords (map record_bytes (base_records kept own slot rows)) (base_records kept own slot rows) }
         ensures answer { HasStoreAnswer D.view disk.old disk.new result }
@@ -160,26 +161,26 @@ impl Store {
         rows: &RowList,
     ) -> Result<GateFile, StoreFault>
         requires rests { IsStoreAtRest D.view disk.old self.now }
-        requires rows { RowsStand rows.now (jobs_of_store self.now) }
+        requires rows { RowsStand rows.now (size_of_store self.now) }
         ensures rests { IfOk result (λ gates. IsFileAtRest D.view disk.new gates) }
         ensures file { IfOk result (λ gates. file_no gates ≡ other_area (area_of self.now)) }
         ensures stand { (kept : Durable) → StoreKeeps self.now kept
-            → IfOk result (λ gates. BodiesStand (jobs_of_store self.now) (bodies_of gates) (after_delta (Base slot rows.now) kept)) }
+            → IfOk result (λ gates. BodiesStand (size_of_store self.now) (bodies_of gates) (after_delta (Base slot rows.now) kept)) }
         ensures others { OnOk result (OthersStay (other_area (area_of self.now)) (D.view.seen disk.old) (D.view.seen disk.new)) }
         ensures images { D.view.honest disk.old → LeavesOnly D.view disk.old disk.new
             (InFileOnly (other_area (area_of self.now)) (D.view.may_leave disk.old) (λ bytes. ⊤)) }
         ensures memory_others { IsErrOf result OutOfMemory → OthersStay (other_area (area_of self.now)) (D.view.seen disk.old) (D.view.seen disk.new) }
         ensures undamaged { (gate : ℕ) → result ≡ Err (Damaged gate) → ⊥ }
-        ensures told { (kept : Durable) (own : Option ℕ) → StandFor (jobs_of_store self.now) (records_of self.now) kept own
+        ensures told { (kept : Durable) (own : Option ℕ) → StandFor (size_of_store self.now) (records_of self.now) kept own
             → TellsThen (MadeCalls of_disk (rewrite_calls (other_area (area_of self.now)) (map record_bytes (base_records kept own slot rows.now))) result)
             (D.view.told disk.old) (D.view.told disk.new) }
-        ensures spelled { (kept : Durable) (own : Option ℕ) → StandFor (jobs_of_store self.now) (records_of self.now) kept own
+        ensures spelled { (kept : Durable) (own : Option ℕ) → StandFor (size_of_store self.now) (records_of self.now) kept own
             → OnOk result (AreRecords (map record_bytes (base_records kept own slot rows.now)) (base_records kept own slot rows.now)) }
-        ensures stopped_spelled { (kept : Durable) (own : Option ℕ) → StandFor (jobs_of_store self.now) (records_of self.now) kept own → IsErrOf result Stopped
+        ensures stopped_spelled { (kept : Durable) (own : Option ℕ) → StandFor (size_of_store self.now) (records_of self.now) kept own → IsErrOf result Stopped
             → AreRecords (map record_bytes (base_records kept own slot rows.now)) (base_records kept own slot rows.now) }
         ensures answer { HasStoreAnswer D.view disk.old disk.new result }
     {
-        let (kept, own) = read_records(self.alloc, self.jobs, self.gates.bodies())?;
+        let (kept, own) = read_records(self.alloc, self.size, self.gates.bodies())?;
         let bodies = write_base(self.alloc, &kept, own, slot, rows)?;
         let other = other_area(self.gates.file());
         Ok(GateFile::rewrite(self.alloc, disk, other, bodies)?)

@@ -19,6 +19,7 @@ use Rattle.due_set.proofs.MatchingLemmas.{minute_of_day-below}
 use Rattle.paxos_base.specs.declared.entry.Entry.{Entry}
 use Rattle.paxos_base.specs.declared.entry.Entry.TheVariants as entry
 use Rattle.paxos_base.specs.declared.entry.Kind.TheVariants.{Launch}
+use Rattle.paxos_base.specs.Rows.{fresh_row}
 use Rattle.paxos_base.specs.declared.rows.JobRow.{JobRow}
 use Rattle.cluster_sched.specs.declared.row.SchedRow.{SchedRow}
 use Rattle.launch_machine.specs.Answers.{IsCallKind, IsIntent}
@@ -26,9 +27,9 @@ use Rattle.launch_machine.specs.Clerk.{Applies, AppliesAll, MayStart, TakesStart
 use Rattle.launch_machine.specs.Intent.{NoCall, NoStart}
 use Rattle.launch_machine.specs.declared.machine.Intent.TheVariants as intent
 use Rattle.launch_machine.proofs.StartLemmas.{may_start_later}
-use Rattle.launch_machine.proofs.MachineLemmas.{may_start_on}
+use Rattle.launch_machine.proofs.MachineLemmas.{may_start_on, start_within}
 use Rattle.step_spec.specs.Propose.{is_open}
-use Rattle.history.proofs.Asks.{utc}
+use Rattle.history.proofs.Asks.{utc, with_table}
 
 -- ---- the table
 
@@ -121,32 +122,36 @@ start_entry = entry.Start 0 today now
 abbrev pub end_entry : Entry
 end_entry = entry.End 0 today Launch
 
-takes_start : TakesStart daily (idle ∷ []) 0 today now
+takes_start : TakesStart daily (with_table idle) 0 today now
 takes_start = record { row = idle; is_row = refl; idle = refl; may = inr opens }
 
-start_applies : Applies daily (idle ∷ []) start_entry (opened ∷ [])
+start_applies : Applies daily (with_table idle) start_entry (with_table opened)
 start_applies = inl (takes_start, refl)
 
-end_applies : Applies daily (opened ∷ []) end_entry (over ∷ [])
+end_applies : Applies daily (with_table opened) end_entry (with_table over)
 end_applies = inl (record { row = opened; is_row = refl; since = now; is_open = refl; cursor = refl }, refl)
 
-pub applied_none : AppliesAll daily (first_rows daily) [] (idle ∷ [])
+pub applied_none : AppliesAll daily (first_rows daily) [] (with_table idle)
 applied_none = refl
 
-pub applied_start : AppliesAll daily (first_rows daily) (start_entry ∷ []) (opened ∷ [])
-applied_start = (opened ∷ [], start_applies, refl)
+pub applied_start : AppliesAll daily (first_rows daily) (start_entry ∷ []) (with_table opened)
+applied_start = (with_table opened, start_applies, refl)
 
-pub applied_end : AppliesAll daily (first_rows daily) (start_entry ∷ end_entry ∷ []) (over ∷ [])
-applied_end = (opened ∷ [], start_applies, (over ∷ [], end_applies, refl))
+pub applied_end : AppliesAll daily (first_rows daily) (start_entry ∷ end_entry ∷ []) (with_table over)
+applied_end = (with_table opened, start_applies, (with_table over, end_applies, refl))
 
-no_call : (row : JobRow) (at : ℤ) → row.open_now ≡ None → NoCall daily (row ∷ []) at
+no_call : (row : JobRow) (at : ℤ) → row.open_now ≡ None → NoCall daily (with_table row) at
 no_call row at shut zero date may =
     let same : row ≡ may.row = cc in
     let both : None ≡ Some may.since = sym shut ∙ ap (λ r. r.open_now) same ∙ may.is_open in
     cc
-no_call row at shut (suc job) date may = let none : None ≡ Some may.row = may.is_row in cc
+no_call row at shut (suc zero) date may =
+    let same : fresh_row 1 ≡ may.row = cc in
+    let both : None ≡ Some may.since = ap (λ r. r.open_now) same ∙ may.is_open in
+    cc
+no_call row at shut (suc (suc job)) date may = let none : None ≡ Some may.row = may.is_row in cc
 
-pub start_asked : IsIntent daily (idle ∷ []) now (intent.Start 0 today)
+pub start_asked : IsIntent daily (with_table idle) now (intent.Start 0 today)
 start_asked = (no_call idle now refl, record { takes = takes_start; first = λ before other less it. absurd (omega (arith, less)) })
 
 call_kind : IsCallKind daily 0 today now Launch
@@ -154,7 +159,7 @@ call_kind spec zone is_in =
     let one = only_one spec zone is_in in
     subst (λ (job : Job). (Launch ≡ Launch) ↔ IsOnTime job.kind zone 0 today now) one.0 ((λ it. shown zone one.1), (λ it. refl))
 
-pub call_asked : IsIntent daily (opened ∷ []) now (intent.Call 0 today Launch)
+pub call_asked : IsIntent daily (with_table opened) now (intent.Call 0 today Launch)
 call_asked = (
   record {
     may = record {
@@ -174,7 +179,7 @@ call_asked = (
 )
 
 -- it may not open on the same day again
-no_start : NoStart daily (over ∷ []) now
+no_start : NoStart daily (with_table over) now
 no_start zero at takes =
     let row : over ≡ takes.row = cc in
     let may : MayStart daily 0 over at now = subst (λ (r : JobRow). MayStart daily 0 r at now) (sym row) takes.may in
@@ -183,12 +188,12 @@ no_start zero at takes =
     let date : at ≡ today = again.is_date ∙ shown again.zone is.1 in
     let later = may_start_later daily 0 over at now may in
     omega (arith, ints, date, later)
-no_start (suc job) at takes = let none : None ≡ Some takes.row = takes.is_row in cc
+no_start (suc job) at takes = let below : suc job < 1 = start_within daily (suc job) takes.row at now takes.may in omega (arith, below)
 
-pub rest_asked : IsIntent daily (over ∷ []) now intent.Rest
+pub rest_asked : IsIntent daily (with_table over) now intent.Rest
 rest_asked = (no_call over now refl, no_start)
 
-pub is_open_then : is_open 0 today (opened ∷ []) ≡ true
+pub is_open_then : is_open 0 today (with_table opened) ≡ true
 is_open_then = (Decides-int_eq today today).1 refl
 
 abbrev pub call_row : SchedRow

@@ -28,6 +28,7 @@ use Rattle.script_semantics.specs.Script.{Obeys}
 use Rattle.script_semantics.specs.Settling.{AsksNothing, DrainsIn, IsFreeTerm, IsQuiet, Settles, Walks, WalksOn, cleared, campaign_tasks, restart_tasks}
 use Rattle.script_semantics.specs.Parts.{Then}
 use Rattle.script_semantics.specs.Situation.{Performs, Situation, Task, Do, after_turn, delivered, first_situation}
+use Rattle.history.proofs.Asks.{with_table}
 use Rattle.run_outcome.proofs.SomeDaily.{applied_end, applied_none, applied_start, call_asked, call_row, daily, idle, now, opened, opens, over, rest_asked, sound, start_asked, today}
 use Rattle.run_outcome.proofs.SomeTurns.{Has, Move, calls, delivers, ended_state, ends, leads, new, rests, started_state, starts, tick_now}
 use Rattle.due_set.proofs.Rising.{Contains-cases as cons_cases}
@@ -179,8 +180,8 @@ drained book situation has = record {
       free = subst (λ (s : State). IsFreeTerm (prefix_of s) s.term) (sym has.state_is) refl;
       answered = has.waits_is;
       rests = record {
-        rows = over ∷ [];
-        rows_are = subst (λ (s : State). AppliesAll daily s.kept.rows s.learned (over ∷ [])) (sym has.state_is) applied_end;
+        rows = with_table over;
+        rows_are = subst (λ (s : State). AppliesAll daily s.kept.rows s.learned (with_table over)) (sym has.state_is) applied_end;
         rests = rest_asked;
       };
       caught_up = λ other member. let first : other ≡ 0 = omega (arith, member) in rw first refl;
@@ -198,13 +199,13 @@ called book situation has =
 begun : (book : List Row) (situation : Situation) → Has book situation started_state [] None → Drained 2 book situation
 begun book situation has =
     more 1 book situation votes_then started_state.learned [] None started_state (call_row ∷ []) (Some call_row)
-    (λ is. busy_by book situation votes_then started_state.learned [] None (opened ∷ []) has applied_start (λ rest. rest.0 0 today call_asked.0.may) is.rests) has
+    (λ is. busy_by book situation votes_then started_state.learned [] None (with_table opened) has applied_start (λ rest. rest.0 0 today call_asked.0.may) is.rests) has
     (λ longer there here. ticks longer there started_state started_state [] (call_row ∷ []) (Some call_row) calls here) called
 
 launches : (book : List Row) (situation : Situation) → Has book situation (leading daily [] []) [] None → Drained 3 book situation
 launches book situation has =
     more 2 book situation [] [] [] None started_state [] None
-    (λ is. busy_by book situation [] [] [] None (idle ∷ []) has applied_none (λ rest. rest.1 0 today start_asked.1.takes) is.rests) has
+    (λ is. busy_by book situation [] [] [] None (with_table idle) has applied_none (λ rest. rest.1 0 today start_asked.1.takes) is.rests) has
     (λ longer there here. ticks longer there (leading daily [] []) started_state [] [] None starts here) begun
 
 -- ---- the walk

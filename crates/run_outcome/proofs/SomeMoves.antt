@@ -37,7 +37,7 @@ use Rattle.history.proofs.Turns.{legal_push}
 use Rattle.launch_safety.proofs.Alone.{leading, vote}
 use Rattle.script_semantics.specs.Situation.{Does, Situation, after_turn, delivered, fates_after, letters_for, mails_after}
 use Rattle.run_outcome.proofs.SomeTable.{brief, call_asked, end_entry, idle, in_window, minute, opened, rest_asked, start_asked, start_entry}
-use Rattle.history.proofs.Asks.{is_open_then}
+use Rattle.history.proofs.Asks.{is_open_then, with_table}
 
 -- the situation is that of a legal book: what the replica has, what is held, and the answer that waits
 pub record Has (book : List Row) (situation : Situation) (state : State) (held : List SchedRow) (waits : Option SchedRow) : Type 0 where
@@ -160,7 +160,7 @@ waits_still =
     (λ standing is. (in_window 0 (lit< tt), plan, refl))
   where
     plan : Plan
-    plan = record { rows = idle 0 ∷ []; intent = intent.Start 0 (minute 0) }
+    plan = record { rows = with_table (idle 0); intent = intent.Start 0 (minute 0) }
 
 -- it stands for leader, and leads
 pub leads : Move new [] None causes.Campaign (leading brief [] []) [] None
@@ -177,16 +177,16 @@ unfolding step tick propose votes_from vote_at with_member
 start_acts rows votes entries at now short = rw (lt-leb (0 + 64) (0 + length entries) (omega (arith, short))) refl
 
 -- it starts a launch
-pub starts : (k : ℕ) (votes : List Vote) (entries : List Entry) (held : List SchedRow) → k < 2 → IsShort entries → AppliesAll brief (first_rows brief) entries (idle k ∷ [])
+pub starts : (k : ℕ) (votes : List Vote) (entries : List Entry) (held : List SchedRow) → k < 2 → IsShort entries → AppliesAll brief (first_rows brief) entries (with_table (idle k))
     → Move (leading brief votes entries) held None (causes.Tick (record { 0 = minute k })) (leading brief (put_vote (vote (0 + length entries) (start_entry k)) votes) (entries ++ start_entry k ∷ [])) held None
 unfolding sent_by calls_by
 starts k votes entries held within short applied =
     did (leading brief votes entries) _ held None (causes.Tick (record { 0 = minute k })) None (Tick (minute k) plan) (proposing (0 + length entries) (start_entry k)) (λ made mails. refl)
-    (start_acts (idle k ∷ []) votes entries (minute k) (minute k) short) (after_proposing votes entries (start_entry k)) (applied, start_asked k within) tt refl tt
+    (start_acts (with_table (idle k)) votes entries (minute k) (minute k) short) (after_proposing votes entries (start_entry k)) (applied, start_asked k within) tt refl tt
     (λ standing is. (in_window k within, plan, refl))
   where
     plan : Plan
-    plan = record { rows = idle k ∷ []; intent = intent.Start 0 (minute k) }
+    plan = record { rows = with_table (idle k); intent = intent.Start 0 (minute k) }
 
 abbrev pub name : ℕ → Name
 name k = record { job = 0; at = minute k }
@@ -203,34 +203,34 @@ unfolding step tick votes_from
 call_acts rows votes entries k short = rw (lt-leb (0 + 64) (0 + length entries) (omega (arith, short))) refl
 
 -- it calls for it
-pub calls : (k : ℕ) (votes : List Vote) (entries : List Entry) (held : List SchedRow) → k < 2 → IsShort entries → AppliesAll brief (first_rows brief) entries (opened k ∷ []) → under (name k) held ≡ None
+pub calls : (k : ℕ) (votes : List Vote) (entries : List Entry) (held : List SchedRow) → k < 2 → IsShort entries → AppliesAll brief (first_rows brief) entries (with_table (opened k)) → under (name k) held ≡ None
     → Move (leading brief votes entries) held None (causes.Tick (record { 0 = minute k })) (leading brief votes entries) (held ++ call_row k ∷ []) (Some (call_row k))
 unfolding sent_by calls_by after_act
 calls k votes entries held within short applied none =
     subst (λ then. Move (leading brief votes entries) held None (causes.Tick (record { 0 = minute k })) (leading brief votes entries) then (Some (call_row k))) held_is
     (did (leading brief votes entries) (leading brief votes entries) held None (causes.Tick (record { 0 = minute k })) (Some (answered_call k)) (Tick (minute k) plan) (Call (call_row k) ∷ []) (λ made mails. refl)
-    (call_acts (opened k ∷ []) votes entries k short) refl (applied, call_asked k) tt (refl, refl, rw none refl) refl
+    (call_acts (with_table (opened k)) votes entries k short) refl (applied, call_asked k) tt (refl, refl, rw none refl) refl
     (λ standing is. (in_window k within, plan, refl)))
   where
     plan : Plan
-    plan = record { rows = opened k ∷ []; intent = intent.Call 0 (minute k) Launch }
+    plan = record { rows = with_table (opened k); intent = intent.Call 0 (minute k) Launch }
 
     held_is : held_after (Some (answered_call k)) held ≡ held ++ call_row k ∷ []
     held_is = rw none refl
 
 end_acts : (votes : List Vote) (entries : List Entry) (k : ℕ)
-    → step (identity_of 1 0) (Answer 0 (minute k) Launch (opened k ∷ [])) (leading brief votes entries) ≡ proposing (0 + length entries) (end_entry k)
+    → step (identity_of 1 0) (Answer 0 (minute k) Launch (with_table (opened k))) (leading brief votes entries) ≡ proposing (0 + length entries) (end_entry k)
 unfolding step answer propose votes_from vote_at with_member
 end_acts votes entries k = rw (is_open_then k) refl
 
 -- it ends it, as the scheduler has answered
-pub ends : (k : ℕ) (votes : List Vote) (entries : List Entry) (held : List SchedRow) → AppliesAll brief (first_rows brief) entries (opened k ∷ [])
+pub ends : (k : ℕ) (votes : List Vote) (entries : List Entry) (held : List SchedRow) → AppliesAll brief (first_rows brief) entries (with_table (opened k))
     → Move (leading brief votes entries) held (Some (call_row k)) causes.Answer (leading brief (put_vote (vote (0 + length entries) (end_entry k)) votes) (entries ++ end_entry k ∷ [])) held None
 unfolding sent_by calls_by
 ends k votes entries held applied =
-    did (leading brief votes entries) _ held (Some (call_row k)) causes.Answer None (Answer 0 (minute k) Launch (opened k ∷ [])) (proposing (0 + length entries) (end_entry k)) (λ made mails. refl)
+    did (leading brief votes entries) _ held (Some (call_row k)) causes.Answer None (Answer 0 (minute k) Launch (with_table (opened k))) (proposing (0 + length entries) (end_entry k)) (λ made mails. refl)
     (end_acts votes entries k) (after_proposing votes entries (end_entry k)) applied tt refl tt
-    (λ standing is. record { row = call_row k; waits = is; plan = record { rows = opened k ∷ []; intent = intent.Rest }; is = refl })
+    (λ standing is. record { row = call_row k; waits = is; plan = record { rows = with_table (opened k); intent = intent.Rest }; is = refl })
 
 rest_acts : (rows : List JobRow) (votes : List Vote) (entries : List Entry) (now : ℤ) → IsShort entries
     → step (identity_of 1 0) (Tick now (record { rows = rows; intent = intent.Rest })) (leading brief votes entries) ≡ Send Others (Lead 8 (0 + length entries)) ∷ []
@@ -238,13 +238,13 @@ unfolding step tick votes_from
 rest_acts rows votes entries now short = rw (lt-leb (0 + 64) (0 + length entries) (omega (arith, short))) refl
 
 -- it rests
-pub rests : (k : ℕ) (votes : List Vote) (entries : List Entry) (held : List SchedRow) → k < 2 → IsShort entries → AppliesAll brief (first_rows brief) entries (idle (suc k) ∷ [])
+pub rests : (k : ℕ) (votes : List Vote) (entries : List Entry) (held : List SchedRow) → k < 2 → IsShort entries → AppliesAll brief (first_rows brief) entries (with_table (idle (suc k)))
     → Move (leading brief votes entries) held None (causes.Tick (record { 0 = minute k })) (leading brief votes entries) held None
 unfolding sent_by calls_by after_act
 rests k votes entries held within short applied =
     did (leading brief votes entries) (leading brief votes entries) held None (causes.Tick (record { 0 = minute k })) None (Tick (minute k) plan) (Send Others (Lead 8 (0 + length entries)) ∷ []) (λ made mails. refl)
-    (rest_acts (idle (suc k) ∷ []) votes entries (minute k) short) refl (applied, rest_asked k) tt refl tt
+    (rest_acts (with_table (idle (suc k))) votes entries (minute k) short) refl (applied, rest_asked k) tt refl tt
     (λ standing is. (in_window k within, plan, refl))
   where
     plan : Plan
-    plan = record { rows = idle (suc k) ∷ []; intent = intent.Rest }
+    plan = record { rows = with_table (idle (suc k)); intent = intent.Rest }

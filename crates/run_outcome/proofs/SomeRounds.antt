@@ -20,6 +20,7 @@ use Rattle.launch_safety.proofs.Alone.{leading, vote}
 use Rattle.script_semantics.specs.Round.{IsRound, clock_reading, round_tasks}
 use Rattle.script_semantics.specs.Settling.{AsksNothing, DrainsIn, IsFreeTerm, IsQuiet, campaign_tasks}
 use Rattle.script_semantics.specs.Situation.{Performs, Situation, Task, Do, after_turn, delivered}
+use Rattle.history.proofs.Asks.{with_table}
 use Rattle.run_outcome.proofs.SomeMoves.{Has, IsShort, Move, call_row, calls, delivers, ends, name, rests, starts}
 use Rattle.run_outcome.proofs.SomeTable.{brief, call_asked, end_applies, end_entry, idle, minute, opened, rest_asked, start_applies, start_asked, start_entry}
 
@@ -183,26 +184,26 @@ busy_by book situation k votes entries held waits rows has applied wants asks =
     wants (subst (λ some. IsIntent brief some (minute k) intent.Rest) (AppliesAll-same brief (first_rows brief) entries asks.rows rows mine applied) asks.rests)
 
 pub wants_start : (book : List Row) (situation : Situation) (k : ℕ) (votes : List Vote) (entries : List Entry) (held : List SchedRow) (waits : Option SchedRow) → k < 2
-    → Has book situation (leading brief votes entries) held waits → AppliesAll brief (first_rows brief) entries (idle k ∷ [])
+    → Has book situation (leading brief votes entries) held waits → AppliesAll brief (first_rows brief) entries (with_table (idle k))
     → AsksNothing brief (minute k) (situation.standing.replicas 0) → ⊥
 wants_start book situation k votes entries held waits within has applied =
-    busy_by book situation k votes entries held waits (idle k ∷ []) has applied (λ rest. rest.1 0 (minute k) (start_asked k within).1.takes)
+    busy_by book situation k votes entries held waits (with_table (idle k)) has applied (λ rest. rest.1 0 (minute k) (start_asked k within).1.takes)
 
 wants_call : (book : List Row) (situation : Situation) (k : ℕ) (votes : List Vote) (entries : List Entry) (held : List SchedRow) (waits : Option SchedRow)
-    → Has book situation (leading brief votes entries) held waits → AppliesAll brief (first_rows brief) entries (opened k ∷ [])
+    → Has book situation (leading brief votes entries) held waits → AppliesAll brief (first_rows brief) entries (with_table (opened k))
     → AsksNothing brief (minute k) (situation.standing.replicas 0) → ⊥
 wants_call book situation k votes entries held waits has applied =
-    busy_by book situation k votes entries held waits (opened k ∷ []) has applied (λ rest. rest.0 0 (minute k) (call_asked k).0.may)
+    busy_by book situation k votes entries held waits (with_table (opened k)) has applied (λ rest. rest.0 0 (minute k) (call_asked k).0.may)
 
 quiet : (book : List Row) (situation : Situation) (k : ℕ) (votes : List Vote) (entries : List Entry) (held : List SchedRow)
-    → Has book situation (leading brief votes entries) held None → AppliesAll brief (first_rows brief) entries (idle (suc k) ∷ []) → IsQuiet 1 brief 0 (minute k) situation
+    → Has book situation (leading brief votes entries) held None → AppliesAll brief (first_rows brief) entries (with_table (idle (suc k))) → IsQuiet 1 brief 0 (minute k) situation
 unfolding votes_from
 quiet book situation k votes entries held has applied = record {
   free = subst (λ (s : State). IsFreeTerm (prefix_of s) s.term) (sym has.state_is) refl;
   answered = has.waits_is;
   rests = record {
-    rows = idle (suc k) ∷ [];
-    rows_are = subst (λ (s : State). AppliesAll brief s.kept.rows s.learned (idle (suc k) ∷ [])) (sym has.state_is) applied;
+    rows = with_table (idle (suc k));
+    rows_are = subst (λ (s : State). AppliesAll brief s.kept.rows s.learned (with_table (idle (suc k)))) (sym has.state_is) applied;
     rests = rest_asked k;
   };
   caught_up = λ other member. let first : other ≡ 0 = omega (arith, member) in rw first refl;
@@ -213,11 +214,11 @@ pub record Launched (book : List Row) (situation : Situation) (k : ℕ) (held : 
   pub votes : List Vote
   pub entries : List Entry
   pub short : length entries ≡ 2 * suc k
-  pub applied : AppliesAll brief (first_rows brief) entries (idle (suc k) ∷ [])
+  pub applied : AppliesAll brief (first_rows brief) entries (with_table (idle (suc k)))
   pub drained : Drained 3 book situation k (leading brief votes entries) (held ++ call_row k ∷ [])
 
 pub launches : (book : List Row) (situation : Situation) (k : ℕ) (votes : List Vote) (entries : List Entry) (held : List SchedRow) → k < 2 → length entries ≡ 2 * k
-    → AppliesAll brief (first_rows brief) entries (idle k ∷ []) → under (name k) held ≡ None → Has book situation (leading brief votes entries) held None → Launched book situation k held
+    → AppliesAll brief (first_rows brief) entries (with_table (idle k)) → under (name k) held ≡ None → Has book situation (leading brief votes entries) held None → Launched book situation k held
 launches book situation k votes entries held within long applied none has = record {
   votes = votes_last;
   entries = entries_last;
@@ -254,11 +255,11 @@ launches book situation k votes entries held within long applied none has = reco
     short_last : IsShort entries_last
     short_last = omega (arith, length_push entries (start_entry k), length_push entries_then (end_entry k), long, within)
 
-    applied_then : AppliesAll brief (first_rows brief) entries_then (opened k ∷ [])
-    applied_then = AppliesAll-push brief (first_rows brief) entries (start_entry k) (idle k ∷ []) (opened k ∷ []) applied (start_applies k within)
+    applied_then : AppliesAll brief (first_rows brief) entries_then (with_table (opened k))
+    applied_then = AppliesAll-push brief (first_rows brief) entries (start_entry k) (with_table (idle k)) (with_table (opened k)) applied (start_applies k within)
 
-    applied_last : AppliesAll brief (first_rows brief) entries_last (idle (suc k) ∷ [])
-    applied_last = AppliesAll-push brief (first_rows brief) entries_then (end_entry k) (opened k ∷ []) (idle (suc k) ∷ []) applied_then (end_applies k)
+    applied_last : AppliesAll brief (first_rows brief) entries_last (with_table (idle (suc k)))
+    applied_last = AppliesAll-push brief (first_rows brief) entries_then (end_entry k) (with_table (opened k)) (with_table (idle (suc k))) applied_then (end_applies k)
 
     ended : (longer : List Row) (there : Situation) → Has longer there (leading brief votes_last entries_last) held_then None → Drained 0 longer there k (leading brief votes_last entries_last) held_then
     ended longer there here = drained longer there k (leading brief votes_last entries_last) held_then here (quiet longer there k votes_last entries_last held_then here applied_last)

@@ -1,5 +1,5 @@
 -- A table of one job that is due at each of two minutes, and what its launch table asks for, launch after launch.
-use Rattle.std.proofs.Common.{◌≡◌, ℕ, zero, suc, ◌+◌, ◌-◌, ◌<◌, ℤ, pos, Option, Some, None, [], ◌∷◌, refl, sym, ap, ◌∙◌, arith, subst, lit<, ◌↔◌, inl, inr}
+use Rattle.std.proofs.Common.{◌≡◌, ℕ, zero, suc, ◌+◌, ◌<◌, ℤ, pos, Option, Some, None, [], ◌∷◌, refl, sym, ap, ◌∙◌, arith, subst, lit<, ◌↔◌, inl, inr}
 use Rattle.std.proofs.lemmas.Int.{ints}
 use Rattle.std.proofs.lemmas.List.Elements.{All-cons, All-nil}
 use Rattle.zone_minutes.specs.Window.{IsInWindow}
@@ -8,6 +8,7 @@ use Rattle.zone_minutes.specs.declared.minute.Window.{Window}
 use Rattle.zone_minutes.proofs.ZoneLemmas.{local_of-fixed}
 use Rattle.due_set.specs.Calls.{IsOnTime}
 use Rattle.due_set.specs.Table.{IsBuiltFor, IsJobDue, IsJobIn, IsNextDue, IsSound, Job, Table, utc_over}
+use Rattle.paxos_base.specs.Rows.{fresh_row}
 use Rattle.paxos_base.specs.declared.entry.Entry.{Entry}
 use Rattle.paxos_base.specs.declared.entry.Entry.TheVariants as entry
 use Rattle.paxos_base.specs.declared.entry.Kind.TheVariants.{Launch}
@@ -16,9 +17,9 @@ use Rattle.launch_machine.specs.Answers.{IsCallKind, IsIntent}
 use Rattle.launch_machine.specs.Clerk.{Applies, MayStart, TakesStart}
 use Rattle.launch_machine.specs.Intent.{NoCall, NoStart}
 use Rattle.launch_machine.specs.declared.machine.Intent.TheVariants as intent
+use Rattle.launch_machine.proofs.MachineLemmas.{start_within}
 use Rattle.launch_safety.proofs.CoverLemmas.{due_never_opens}
-use Rattle.step_spec.specs.Propose.{is_open}
-use Rattle.history.proofs.Asks.{utc, nothing_below, each_minute, only_job, matches_all}
+use Rattle.history.proofs.Asks.{utc, nothing_below, each_minute, only_job, matches_all, with_table}
 
 -- ---- the table
 
@@ -90,23 +91,24 @@ start_entry k = entry.Start 0 (minute k) (minute k)
 abbrev pub end_entry : ℕ → Entry
 end_entry k = entry.End 0 (minute k) Launch
 
-takes_start : (k : ℕ) → k < 2 → TakesStart brief (idle k ∷ []) 0 (minute k) (minute k)
+takes_start : (k : ℕ) → k < 2 → TakesStart brief (with_table (idle k)) 0 (minute k) (minute k)
 takes_start k within = record { row = idle k; is_row = refl; idle = refl; may = inl (next k within, omega (arith, ints)) }
 
-pub start_applies : (k : ℕ) → k < 2 → Applies brief (idle k ∷ []) (start_entry k) (opened k ∷ [])
+pub start_applies : (k : ℕ) → k < 2 → Applies brief (with_table (idle k)) (start_entry k) (with_table (opened k))
 start_applies k within = inl (takes_start k within, refl)
 
-pub end_applies : (k : ℕ) → Applies brief (opened k ∷ []) (end_entry k) (idle (suc k) ∷ [])
+pub end_applies : (k : ℕ) → Applies brief (with_table (opened k)) (end_entry k) (with_table (idle (suc k)))
 end_applies k = inl (
   record { row = opened k; is_row = refl; since = minute k; is_open = refl; cursor = refl },
   let more : k + 1 ≡ suc k = omega arith in rw more refl,
 )
 
-no_call : (k : ℕ) (now : ℤ) → NoCall brief (idle k ∷ []) now
+no_call : (k : ℕ) (now : ℤ) → NoCall brief (with_table (idle k)) now
 no_call k now zero at may = let row : idle k ≡ may.row = cc in let shut : None ≡ Some may.since = ap (λ r. r.open_now) row ∙ may.is_open in cc
-no_call k now (suc job) at may = let none : None ≡ Some may.row = may.is_row in cc
+no_call k now (suc zero) at may = let row : fresh_row 1 ≡ may.row = cc in let shut : None ≡ Some may.since = ap (λ r. r.open_now) row ∙ may.is_open in cc
+no_call k now (suc (suc job)) at may = let none : None ≡ Some may.row = may.is_row in cc
 
-pub start_asked : (k : ℕ) → k < 2 → IsIntent brief (idle k ∷ []) (minute k) (intent.Start 0 (minute k))
+pub start_asked : (k : ℕ) → k < 2 → IsIntent brief (with_table (idle k)) (minute k) (intent.Start 0 (minute k))
 start_asked k within = (no_call k (minute k), record { takes = takes_start k within; first = λ before other less it. nothing_below before less })
 
 on_time : (k : ℕ) → IsCallKind brief 0 (minute k) (minute k) Launch
@@ -117,7 +119,7 @@ on_time k spec zone is_in =
     cc_some : (a b : Job) → Some a ≡ Some b → a ≡ b
     cc_some a b is = cc
 
-pub call_asked : (k : ℕ) → IsIntent brief (opened k ∷ []) (minute k) (intent.Call 0 (minute k) Launch)
+pub call_asked : (k : ℕ) → IsIntent brief (with_table (opened k)) (minute k) (intent.Call 0 (minute k) Launch)
 call_asked k = (
   record {
     may = record { row = opened k; is_row = refl; since = minute k; is_open = refl; cursor = refl; spec = only_job; zone = utc.0; is_in = job_in; come = omega (arith, ints) };
@@ -127,7 +129,7 @@ call_asked k = (
 )
 
 -- the next minute has not come
-no_start : (k : ℕ) → NoStart brief (idle (suc k) ∷ []) (minute k)
+no_start : (k : ℕ) → NoStart brief (with_table (idle (suc k))) (minute k)
 no_start k zero at takes =
     let row : idle (suc k) ≡ takes.row = cc in
     by_may (subst (λ (r : JobRow). MayStart brief 0 r at (minute k)) (sym row) takes.may)
@@ -135,7 +137,7 @@ no_start k zero at takes =
     by_may : MayStart brief 0 (idle (suc k)) at (minute k) → ⊥
     by_may (inl (next, come)) = let later = next.later in omega (arith, ints, later, come)
     by_may (inr opens) = due_never_opens brief 0 _ _ (minute 0) (minute k) at (due 0 (lit< tt)) opens
-no_start k (suc job) at takes = let none : None ≡ Some takes.row = takes.is_row in cc
+no_start k (suc job) at takes = let below : suc job < 1 = start_within brief (suc job) takes.row at (minute k) takes.may in omega (arith, below)
 
-pub rest_asked : (k : ℕ) → IsIntent brief (idle (suc k) ∷ []) (minute k) intent.Rest
+pub rest_asked : (k : ℕ) → IsIntent brief (with_table (idle (suc k))) (minute k) intent.Rest
 rest_asked k = (no_call (suc k) (minute k), no_start k)

@@ -34,6 +34,7 @@ use Rattle.history.specs.declared.turn.Turn.TheVariants.{Did}
 use Rattle.history.proofs.Turns.{legal_push}
 use Rattle.launch_safety.proofs.Alone.{leading, vote}
 use Rattle.script_semantics.specs.Situation.{Does, Situation, after_turn, delivered, fates_after, letters_for, mails_after}
+use Rattle.history.proofs.Asks.{with_table}
 use Rattle.run_outcome.proofs.SomeDaily.{applied_end, applied_none, applied_start, call_asked, call_row, daily, end_entry, idle, inside, is_open_then, now, opened, over, rest_asked, start_asked, start_entry, today}
 
 -- the situation is that of a legal book: what the replica has, what is held, and the answer that waits
@@ -173,11 +174,11 @@ start_acts rows votes entries short = rw (lt-leb (0 + 64) (0 + length entries) (
 pub starts : Move (leading daily [] []) [] None tick_now started_state [] None
 unfolding sent_by calls_by
 starts =
-    did (leading daily [] []) started_state [] None tick_now None (Tick now plan) (proposing 0 start_entry) (λ made mails. refl) (start_acts (idle ∷ []) [] [] (lit< tt)) (after_proposing [] [] start_entry) (applied_none, start_asked) tt refl tt
+    did (leading daily [] []) started_state [] None tick_now None (Tick now plan) (proposing 0 start_entry) (λ made mails. refl) (start_acts (with_table idle) [] [] (lit< tt)) (after_proposing [] [] start_entry) (applied_none, start_asked) tt refl tt
     (λ standing is. (inside, plan, refl))
   where
     plan : Plan
-    plan = record { rows = idle ∷ []; intent = intent.Start 0 today }
+    plan = record { rows = with_table idle; intent = intent.Start 0 today }
 
 abbrev answered_call : CallRow
 answered_call = record { row = call_row; fate = Done; answer = Some call_row }
@@ -191,11 +192,11 @@ call_acts rows votes entries short = rw (lt-leb (0 + 64) (0 + length entries) (o
 pub calls : Move started_state [] None tick_now started_state (call_row ∷ []) (Some call_row)
 unfolding sent_by calls_by after_act
 calls =
-    did started_state started_state [] None tick_now (Some answered_call) (Tick now plan) (Call call_row ∷ []) (λ made mails. refl) (call_acts (opened ∷ []) started_state.kept.votes (start_entry ∷ []) (lit< tt)) refl (applied_start, call_asked) tt (refl, refl, refl) refl
+    did started_state started_state [] None tick_now (Some answered_call) (Tick now plan) (Call call_row ∷ []) (λ made mails. refl) (call_acts (with_table opened) started_state.kept.votes (start_entry ∷ []) (lit< tt)) refl (applied_start, call_asked) tt (refl, refl, refl) refl
     (λ standing is. (inside, plan, refl))
   where
     plan : Plan
-    plan = record { rows = opened ∷ []; intent = intent.Call 0 today Launch }
+    plan = record { rows = with_table opened; intent = intent.Call 0 today Launch }
 
 -- it ends it, as the scheduler has answered
 end_acts : (rows : List JobRow) (votes : List Vote) (entries : List Entry) → is_open 0 today rows ≡ true
@@ -206,9 +207,9 @@ end_acts rows votes entries open_then = rw open_then refl
 pub ends : Move started_state (call_row ∷ []) (Some call_row) causes.Answer ended_state (call_row ∷ []) None
 unfolding sent_by calls_by
 ends =
-    did started_state ended_state (call_row ∷ []) (Some call_row) causes.Answer None (Answer 0 today Launch (opened ∷ [])) (proposing 1 end_entry) (λ made mails. refl) (end_acts (opened ∷ []) started_state.kept.votes (start_entry ∷ []) is_open_then)
+    did started_state ended_state (call_row ∷ []) (Some call_row) causes.Answer None (Answer 0 today Launch (with_table opened)) (proposing 1 end_entry) (λ made mails. refl) (end_acts (with_table opened) started_state.kept.votes (start_entry ∷ []) is_open_then)
     (after_proposing (put_vote (vote 0 start_entry) []) (start_entry ∷ []) end_entry) applied_start tt refl tt
-    (λ standing is. record { row = call_row; waits = is; plan = record { rows = opened ∷ []; intent = intent.Rest }; is = refl })
+    (λ standing is. record { row = call_row; waits = is; plan = record { rows = with_table opened; intent = intent.Rest }; is = refl })
 
 -- it rests
 rest_acts : (rows : List JobRow) (votes : List Vote) (entries : List Entry) → length entries < 64
@@ -219,8 +220,8 @@ rest_acts rows votes entries short = rw (lt-leb (0 + 64) (0 + length entries) (o
 pub rests : Move ended_state (call_row ∷ []) None tick_now ended_state (call_row ∷ []) None
 unfolding sent_by calls_by after_act
 rests =
-    did ended_state ended_state (call_row ∷ []) None tick_now None (Tick now plan) (Send Others (Lead 8 2) ∷ []) (λ made mails. refl) (rest_acts (over ∷ []) ended_state.kept.votes (start_entry ∷ end_entry ∷ []) (lit< tt)) refl (applied_end, rest_asked) tt refl tt
+    did ended_state ended_state (call_row ∷ []) None tick_now None (Tick now plan) (Send Others (Lead 8 2) ∷ []) (λ made mails. refl) (rest_acts (with_table over) ended_state.kept.votes (start_entry ∷ end_entry ∷ []) (lit< tt)) refl (applied_end, rest_asked) tt refl tt
     (λ standing is. (inside, plan, refl))
   where
     plan : Plan
-    plan = record { rows = over ∷ []; intent = intent.Rest }
+    plan = record { rows = with_table over; intent = intent.Rest }

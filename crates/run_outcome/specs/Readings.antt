@@ -1,5 +1,5 @@
 -- What the clocks read in some turns, and which of them are a script's; and grace that lasts as long as the window.
-use Rattle.std.specs.Prelude.{ℕ, List, ℤ, pos, ◌+ℤ◌, ◌≤ℤ◌}
+use Rattle.std.specs.Prelude.{ℕ, List, pos, ◌+ℤ◌, ◌≤ℤ◌}
 use Rattle.due_set.specs.Table.{Table}
 use Rattle.script_text.specs.declared.command.Command.{Command}
 use Rattle.history.specs.Book.{Row}

@@ -5,6 +5,7 @@ use Rattle.std.specs.List.{slice_get}
 use Rattle.std.proofs.lemmas.Int.{ints, to_z-of_z}
 use Rattle.zone_minutes.specs.Window.{IsInWindow, IsWithinLimits}
 use Rattle.zone_minutes.specs.declared.minute.Window.{Window}
+use Rattle.launch_machine.specs.Clerk.{table_size}
 use Rattle.disk_model.specs.declared.mem_disk.MemDisk.{MemDisk}
 use Rattle.due_set.specs.Table.{Table}
 use Rattle.paxos_base.specs.declared.durable.Durable.{Durable}
@@ -71,14 +72,14 @@ walked_rows table members script starts old new more after played walks here sam
 
 module _ (table : Table) (members : ℕ) (script : List Command) (world : World MemDisk) (run : HasRun table members script world) (nodes : List (Node MemDisk)) (are : AreMemNodesOf table run.rows (book_of world) nodes) where
   pub files_stand : (who : ℕ) (node : Node MemDisk) → slice_get nodes who ≡ Some node
-      → FilesStand (length table.jobs) ((standing_behind table run.rows (book_of world)).replicas who).kept (seen_of (disk_of node))
+      → FilesStand (table_size table) ((standing_behind table run.rows (book_of world)).replicas who).kept (seen_of (disk_of node))
   files_stand who node found = (are.each who node found).stand
 
   pub stops_stand : (who : ℕ) (node : Node MemDisk) (image : Image) → slice_get nodes who ≡ Some node → left_by (disk_of node) image
-      → FilesStand (length table.jobs) ((standing_behind table run.rows (book_of world)).replicas who).kept image
+      → FilesStand (table_size table) ((standing_behind table run.rows (book_of world)).replicas who).kept image
   stops_stand who node image found left =
       let is = are.each who node found in
-      subst (λ (kept : Durable). FilesStand (length table.jobs) kept image) is.kept (stands_at_rest view_of table node is.at_rest tt image left)
+      subst (λ (kept : Durable). FilesStand (table_size table) kept image) is.kept (stands_at_rest view_of table node is.at_rest tt image left)
 
   pub count_nodes : length nodes ≡ members
   count_nodes = are.count ∙ run.count

@@ -1,9 +1,10 @@
 -- What is seen of a board after each command `free` of a script, by the rows behind the book.
 use Rattle.std.specs.Prelude.{◌≡◌, ◌⊎◌, ℕ, suc, ◌<◌, ◌≤◌, Bool, true, false, List, [], ◌∷◌, ◌++◌, length, map, take, Option, None, Some, is_some, Contains, filter, get_or, slice_get, ⊤}
 use Rattle.std.specs.List.{enumerate_from}
+use Rattle.paxos_base.specs.Rows.{row_count}
 use Rattle.disk_model.specs.View.{DiskView}
 use Rattle.due_set.specs.Table.{Table}
-use Rattle.launch_machine.specs.Clerk.{first_rows}
+use Rattle.launch_machine.specs.Clerk.{first_rows, table_size}
 use Rattle.paxos_base.specs.declared.rows.JobRow.{JobRow}
 use Rattle.step_spec.specs.State.{prefix_of}
 use Rattle.history.specs.Book.{Row, standing_after}
@@ -87,7 +88,7 @@ pub record IsWatched (table : Table) (script : List Command) (book : BookState) 
 pub record MayWatch (table : Table) (watch : Watch) : Type 0 where
   pub may : MayShow table watch.writer
   pub board : watch.reader.board ≡ watch.writer.board
-  pub jobs : watch.reader.jobs ≡ length table.jobs
+  pub total : watch.reader.total ≡ row_count (table_size table)
 
 -- so it is where there is a watch
 abbrev pub MayWatchOn : Table → Option Watch → Type 0

@@ -1,6 +1,7 @@
 //! Laws of scripts that worlds play. Each is the contract of a function that does nothing.
 ghost use Rattle.std.specs.Prelude.{◌≡◌, ◌<◌, ◌≤◌, ◌++◌, ℕ, ℤ, List, None, Some, All, length, slice_get};
 ghost use Rattle.zone_minutes.specs.Window.{IsInWindow};
+ghost use Rattle.launch_machine.specs.Clerk.{table_size};
 ghost use Rattle.due_set.specs.Table.{Table};
 ghost use Rattle.paxos_base.specs.declared.entry.Entry.{Entry};
 ghost use Rattle.run_text.specs.Run.{Run};
@@ -48,11 +49,11 @@ pub fn a_played_run_leaves_its_nodes()
     ensures files { (table : Table) (members : ℕ) (script : List Command) (world : World MemDisk)
         (run : HasRun table members script world) (nodes : List (Node MemDisk))
         → AreMemNodesOf table run.rows (book_of world) nodes → (who : ℕ) (node : Node MemDisk) → slice_get nodes who ≡ Some node
-        → FilesStand (length table.jobs) ((standing_behind table run.rows (book_of world)).replicas who).kept (seen_of (disk_of node)) }
+        → FilesStand (table_size table) ((standing_behind table run.rows (book_of world)).replicas who).kept (seen_of (disk_of node)) }
     ensures stops { (table : Table) (members : ℕ) (script : List Command) (world : World MemDisk)
         (run : HasRun table members script world) (nodes : List (Node MemDisk))
         → AreMemNodesOf table run.rows (book_of world) nodes → (who : ℕ) (node : Node MemDisk) (image : Image) → slice_get nodes who ≡ Some node
-        → left_by (disk_of node) image → FilesStand (length table.jobs) ((standing_behind table run.rows (book_of world)).replicas who).kept image }
+        → left_by (disk_of node) image → FilesStand (table_size table) ((standing_behind table run.rows (book_of world)).replicas who).kept image }
     ensures count { (table : Table) (members : ℕ) (script : List Command) (world : World MemDisk)
         (run : HasRun table members script world) (nodes : List (Node MemDisk))
         → AreMemNodesOf table run.rows (book_of world) nodes → length nodes ≡ members }

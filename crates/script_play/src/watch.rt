@@ -1,5 +1,7 @@
 //! A board of what the first replica learns in free turns, and a reader who looks at it after each command `free`.
 ghost use Rattle.std.specs.Prelude.{◌≡◌, ◌+◌, ◌<◌, ◌^◌, ◌∷◌, ◌++◌, ℕ, [], IfOk, IfSome, length, true};
+ghost use Rattle.launch_machine.specs.Clerk.{table_size};
+ghost use Rattle.paxos_base.specs.Rows.{row_count};
 ghost use Rattle.script_play.specs.Watch.{MayWatch, Watches, open_jobs};
 ghost use Rattle.world_free.specs.Board.{MayShow};
 
@@ -21,16 +23,16 @@ pub struct Watch {
 }
 
 // How many jobs are open in a view, where it is the writer's state.
-fn open_of(view: &BoardView, writer: &BoardWriter, jobs: u32) -> Option<u32>
-    requires view { jobs ≡ view.now.jobs }
-    requires rows { jobs ≡ length writer.now.machine.rows }
+fn open_of(view: &BoardView, writer: &BoardWriter, total: u32) -> Option<u32>
+    requires view { total ≡ view.now.total }
+    requires rows { total ≡ length writer.now.machine.rows }
     ensures { IfSome result (λ count. count ≡ open_jobs writer.now.machine.rows) }
 {
     if view.prefix() != writer.prefix() {
         return None;
     }
     let mut count = 0;
-    'jobs: for job in 0..jobs {
+    'jobs: for job in 0..total {
         let row = writer.row(job);
         if view.row(job) != row {
             return None;
@@ -47,23 +49,23 @@ fn look<R: Wait>(
     rt: &R,
     writer: BoardWriter,
     reader: BoardReader,
-    jobs: u32,
+    total: u32,
 ) -> (BoardWriter, BoardReader, u32)
     requires ready { writer.ready ≡ true }
     requires published { writer.published ≡ writer.states }
     requires board { reader.board ≡ writer.board }
-    requires jobs { jobs ≡ reader.jobs }
-    requires rows { jobs ≡ length writer.machine.rows }
+    requires total { total ≡ reader.total }
+    requires rows { total ≡ length writer.machine.rows }
     ensures writer { result.0 ≡ writer }
     ensures board { result.1.board ≡ writer.board }
-    ensures jobs { result.1.jobs ≡ reader.jobs }
+    ensures total { result.1.total ≡ reader.total }
     ensures count { result.2 ≡ open_jobs writer.machine.rows }
 {
     let (writer, mark) = writer.publish(rt);
     let mut reader = reader.told(&mark);
     'looks: for _ in rt.forever() {
         let view = reader.view(rt);
-        let count = open_of(&view, &writer, jobs);
+        let count = open_of(&view, &writer, total);
         reader = view.leave();
         if let Some(count) = count {
             return (writer, reader, count);
@@ -129,11 +131,11 @@ pub(crate) fn see<R: Wait>(
 ) -> Result<Watch, OutOfMemory>
     requires may { MayShow table.now watch.writer }
     requires board { watch.reader.board ≡ watch.writer.board }
-    requires jobs { watch.reader.jobs ≡ length table.now.jobs }
+    requires total { watch.reader.total ≡ row_count (table_size table.now) }
     requires place { place < 2 ^ 63 }
     ensures writer { IfOk result (λ new. new.writer ≡ watch.writer) }
     ensures board { IfOk result (λ new. new.reader.board ≡ watch.writer.board) }
-    ensures jobs { IfOk result (λ new. new.reader.jobs ≡ length table.now.jobs) }
+    ensures total { IfOk result (λ new. new.reader.total ≡ row_count (table_size table.now)) }
     ensures seen { IfOk result (λ new. new.seen.items
         ≡ watch.seen.items ++ record { number = place + 1; prefix = watch.writer.prefix; jobs_open = open_jobs watch.writer.machine.rows } ∷ []) }
 {
@@ -143,7 +145,7 @@ pub(crate) fn see<R: Wait>(
         mut seen,
     } = watch;
     let prefix = writer.prefix();
-    let (writer, reader, jobs_open) = look(rt, writer, reader, table.jobs());
+    let (writer, reader, jobs_open) = look(rt, writer, reader, table.jobs() + 1);
     match seen.push(Seen {
         number: place + 1,
         prefix,

@@ -25,12 +25,12 @@ use Rattle.history.specs.declared.turn.Cause.{Cause}
 use Rattle.history.specs.declared.turn.Cause.TheVariants as cause
 use Rattle.history.specs.declared.turn.Turn.TheVariants.{Did}
 use Rattle.history.proofs.SomeBook.{prepare_spells, promise_spells}
+use Rattle.history.proofs.TableRows.{rests_without_jobs}
 use Rattle.history.proofs.Turns.{legal_append}
 use Rattle.script_semantics.specs.Arms.{IsEnough}
 use Rattle.script_semantics.specs.Free.{Course, GoesFreely, IsFreePart, IsFreeTurn, TakesFreeTurns, after_all_posted, course_of, is_turn_of, next_cause}
 use Rattle.script_semantics.specs.Situation.{Situation, changes_in, first_situation}
 use Rattle.script_semantics.proofs.PartLemmas.{goes_none, goes_other, goes_own}
-use Rattle.step_spec.proofs.ListLemmas.{nothing_found}
 
 -- ---- the turns
 
@@ -44,7 +44,7 @@ abbrev pub minute : Cause
 minute = cause.Tick (record { 0 = pos 0 })
 
 abbrev pub told_minute : Event
-told_minute = Tick (pos 0) (record { rows = []; intent = intent.Rest })
+told_minute = Tick (pos 0) (record { rows = first_rows no_jobs; intent = intent.Rest })
 
 abbrev pub stands : Row
 stands = did 0 cause.Campaign Campaign (letter_to 1 0 (packet.Prepare 8 0) ∷ [])
@@ -68,18 +68,18 @@ unheard = ticks 1 ∷ ticks 1 ∷ stands ∷ ticks 0 ∷ []
 abbrev pub May : List Row → Row → Type 0
 May book row = MayFollow 2 no_jobs (standing_after 2 (first_rows no_jobs) book) row.turn row
 
-asks_nothing : IsIntent no_jobs [] (pos 0) intent.Rest
-asks_nothing = ((λ job at may. nothing_found job may.is_row), (λ job at takes. nothing_found job takes.is_row))
+asks_nothing : IsIntent no_jobs (first_rows no_jobs) (pos 0) intent.Rest
+asks_nothing = rests_without_jobs no_jobs (first_rows no_jobs) (pos 0) refl
 
 pub takes_campaign : (standing : Standing) (who : ℕ) → who < 2 → standing.runs who ≡ true → TakesTurn 2 no_jobs standing who cause.Campaign Campaign
 takes_campaign standing who member runs = record { member = member; runs = runs; event_of = refl; planned = tt }
 
-pub takes_tick : (standing : Standing) (who : ℕ) → who < 2 → standing.runs who ≡ true → IsLaunchTable no_jobs (standing.replicas who) []
+pub takes_tick : (standing : Standing) (who : ℕ) → who < 2 → standing.runs who ≡ true → IsLaunchTable no_jobs (standing.replicas who) (first_rows no_jobs)
     → TakesTurn 2 no_jobs standing who minute told_minute
 takes_tick standing who member runs launch = record {
   member = member;
   runs = runs;
-  event_of = (record { since = grind arith; before = grind arith }, record { rows = []; intent = intent.Rest }, refl);
+  event_of = (record { since = grind arith; before = grind arith }, record { rows = first_rows no_jobs; intent = intent.Rest }, refl);
   planned = (launch, asks_nothing);
 }
 

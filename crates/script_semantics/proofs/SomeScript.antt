@@ -17,7 +17,7 @@ use Rattle.history.specs.declared.turn.Turn.TheVariants.{Did}
 use Rattle.script_semantics.specs.Script.{Obeys}
 use Rattle.script_semantics.specs.Settling.{IsQuiet, cleared}
 use Rattle.script_semantics.specs.Situation.{Situation, after_turns, delivered, first_situation}
-use Rattle.step_spec.proofs.ListLemmas.{nothing_found}
+use Rattle.history.proofs.TableRows.{rests_without_jobs}
 
 abbrev stands_for : Row
 stands_for = record { turn = Did 0 cause.Campaign None; event = Campaign; letters = []; votes = []; learnt = [] }
@@ -53,9 +53,9 @@ is_quiet = record {
   free = refl;
   answered = refl;
   rests = record {
-    rows = [];
+    rows = first_rows no_jobs;
     rows_are = refl;
-    rests = ((λ job at may. nothing_found job may.is_row), (λ job at takes. nothing_found job takes.is_row));
+    rests = rests_without_jobs no_jobs (first_rows no_jobs) (pos 0) refl;
   };
   caught_up = λ other member. let first : other ≡ 0 = omega arith in rw first refl;
 }

@@ -23,7 +23,7 @@ use Rattle.script_semantics.specs.Arms.{StopsInStep, armed_by}
 use Rattle.script_semantics.specs.Script.{ArePartsOf, Obeys}
 use Rattle.script_semantics.specs.Settling.{IsQuiet, Walks, cleared}
 use Rattle.script_semantics.specs.Situation.{Situation, after_turns, delivered, first_situation}
-use Rattle.step_spec.proofs.ListLemmas.{nothing_found}
+use Rattle.history.proofs.TableRows.{rests_without_jobs}
 
 abbrev row_of : Turn → Row
 row_of turn = record { turn = turn; event = Campaign; letters = []; votes = []; learnt = [] }
@@ -105,9 +105,9 @@ is_quiet = record {
   free = refl;
   answered = refl;
   rests = record {
-    rows = [];
+    rows = first_rows no_jobs;
     rows_are = refl;
-    rests = ((λ job at may. nothing_found job may.is_row), (λ job at takes. nothing_found job takes.is_row));
+    rests = rests_without_jobs no_jobs (first_rows no_jobs) (pos 0) refl;
   };
   caught_up = λ other member. let first : other ≡ 0 = omega arith in rw first refl;
 }

@@ -1,9 +1,15 @@
 //! What a run leaves beside its report: the disks of its replicas, and the letters that they sent.
 use crate::play::{NO_FAULTS, play, play_words};
-use paxos_base::{Ballot, Entry, Kind, Vote};
+use paxos_base::{Ballot, Entry, Kind, TableSize, Vote};
 use replica_store::Store;
 use std::test::*;
 use world_law::LetterRow;
+
+// The size of a table of one job.
+const ONE_JOB: TableSize = TableSize {
+    jobs: 1,
+    last_version: 0,
+};
 
 const ONE: &str = "\
 cronrun 1
@@ -50,7 +56,7 @@ fn a_disk_keeps_what_its_replica_voted_for(rt: HostRuntime) -> Result<(), Fail> 
         return Err(Fail::from("no node"));
     };
     let mut disk = node.into_disk();
-    let Ok((_, kept)) = Store::attach(rt.alloc(), &mut disk, 1) else {
+    let Ok((_, kept)) = Store::attach(rt.alloc(), &mut disk, ONE_JOB) else {
         return Err(Fail::from("no store"));
     };
     let Some(first) = Ballot::from_number(8) else {

@@ -1,10 +1,11 @@
 -- What all replicas do in a round, one after another by their numbers.
-use Rattle.std.proofs.Common.{◌≡◌, ◌≢◌, ℕ, zero, suc, ◌+◌, ◌<◌, ◌≤◌, Option, None, List, [], ◌∷◌, ◌++◌, append_assoc, append-nil, length, ℤ, refl, sym, ap, ◌∙◌, inl, inr, arith, subst}
+use Rattle.std.proofs.Common.{◌≡◌, ◌≢◌, ℕ, zero, suc, ◌+◌, ◌<◌, ◌≤◌, Option, None, List, [], ◌∷◌, ◌++◌, append_assoc, append-nil, ℤ, refl, sym, ap, ◌∙◌, inl, inr, arith, subst}
 use Rattle.std.specs.List.{AllZip, filter, flat_map, range_with_len}
 use Rattle.std.proofs.lemmas.Bool.{cases_eq}
 use Rattle.std.proofs.lemmas.List.Elements.{filter-append}
 use Rattle.cluster_sched.specs.declared.fate.Fate.TheVariants as fate
 use Rattle.cluster_sched.specs.declared.row.SchedRow.{SchedRow}
+use Rattle.launch_machine.specs.Clerk.{table_size}
 use Rattle.due_set.specs.Table.{Table}
 use Rattle.launch_machine.specs.declared.machine.Intent.TheVariants.{Rest}
 use Rattle.zone_minutes.specs.declared.minute.Minute.{Minute}
@@ -38,7 +39,7 @@ letters_of_one members at cluster q advice who = letters_to (identity_of members
 pub record BeginsPart (members : ℕ) (table : Table) (at : ℤ) (tasks : ℕ → List Task) (cluster : Cluster) (situation : Situation) (who : ℕ) : Type 0 where
   pub replica : situation.standing.replicas who ≡ cluster.replicas who
   pub waits : situation.standing.waits who ≡ cluster.waits who
-  pub letters : AllZip (IsLetterAt members (length table.jobs) situation.standing.posted who) (situation.mails who) (cluster.mails who)
+  pub letters : AllZip (IsLetterAt members (table_size table) situation.standing.posted who) (situation.mails who) (cluster.mails who)
   pub done : situation.fates who ≡ fate.Done
   pub now : Minute
   pub reads : now.0 ≡ at
@@ -69,8 +70,8 @@ pub record HadParts (members : ℕ) (table : Table) (at : ℤ) (from count : ℕ
   pub done : (other : ℕ) → situation.fates other ≡ fate.Done → later.fates other ≡ fate.Done
   pub more : List PostedLetter
   pub posted : later.standing.posted ≡ situation.standing.posted ++ more
-  pub letters : AreWhole members (length table.jobs) more → (q : ℕ) → q < members
-      → AllZip (IsHeardLike members (length table.jobs)) (filter (is_to q) more) (flat_map (λ who. letters_of_one members at cluster q (advice who) who) (range_with_len from count))
+  pub letters : AreWhole members (table_size table) more → (q : ℕ) → q < members
+      → AllZip (IsHeardLike members (table_size table)) (filter (is_to q) more) (flat_map (λ who. letters_of_one members at cluster q (advice who) who) (range_with_len from count))
 
 -- ---- one after another
 
@@ -81,16 +82,16 @@ flat_same f g from (suc count) same =
     ∙ ap (λ list. g from ++ list) (flat_same f g (from + 1) count (λ k least. same k (omega (arith, least))))
 
 begins_later : (members : ℕ) (table : Table) (at : ℤ) (tasks : ℕ → List Task) (cluster : Cluster) (before after : Situation) (one who : ℕ) (events : List Event)
-    → Passes members table (length table.jobs) one events before after → who ≢ one → BeginsPart members table at tasks cluster before who → BeginsPart members table at tasks cluster after who
+    → Passes members table (table_size table) one events before after → who ≢ one → BeginsPart members table at tasks cluster before who → BeginsPart members table at tasks cluster after who
 begins_later members table at tasks cluster before after one who events passes apart begins =
-    let jobs = length table.jobs in
+    let size = table_size table in
     let mailed : before.mails who ≡ after.mails who = sym (passes.mails who apart) in
     record {
       replica = passes.others who apart ∙ begins.replica;
       waits = passes.waits who apart ∙ begins.waits;
-      letters = subst (λ mail. AllZip (IsLetterAt members jobs after.standing.posted who) mail (cluster.mails who)) mailed
-          (subst (λ posted. AllZip (IsLetterAt members jobs posted who) (before.mails who) (cluster.mails who)) (sym passes.posted)
-          (zip_posted members jobs before.standing.posted passes.more who (before.mails who) (cluster.mails who) begins.letters));
+      letters = subst (λ mail. AllZip (IsLetterAt members size after.standing.posted who) mail (cluster.mails who)) mailed
+          (subst (λ posted. AllZip (IsLetterAt members size posted who) (before.mails who) (cluster.mails who)) (sym passes.posted)
+          (zip_posted members size before.standing.posted passes.more who (before.mails who) (cluster.mails who) begins.letters));
       done = passes.done who begins.done;
       now = begins.now;
       reads = begins.reads;
@@ -162,7 +163,7 @@ parts_next : (members : ℕ) (table : Table) (at : ℤ) (from count : ℕ) (task
     → BeginsPart members table at tasks cluster situation from → (takes : TakesPart members table at from (cluster.waits from) (cluster.mails from) back situation rows)
     → HadParts members table at (from + 1) count cluster takes.part.later takes.part.rest → HadParts members table at from (suc count) cluster situation rows
 parts_next members table at from count tasks back cluster situation rows begins takes behind =
-    let jobs = length table.jobs in
+    let size = table_size table in
     let passes = takes.part.passes in
     let advice = with_fact from takes.advice behind.advice in
     let answers = with_fact from takes.answer behind.answers in
@@ -198,14 +199,14 @@ parts_next members table at from count tasks back cluster situation rows begins 
           let there : rest ≡ flat_map (λ who. letters_of_one members at cluster q (advice who) who) (range_with_len (from + 1) count) =
           flat_same (λ who. letters_of_one members at cluster q (behind.advice who) who) (λ who. letters_of_one members at cluster q (advice who) who) (from + 1) count
           (λ k least. ap (λ a. letters_of_one members at cluster q a k) (sym (fact_there from takes.advice behind.advice k (λ same. absurd (omega (arith, least, same)))))) in
-          subst (λ list. AllZip (IsHeardLike members jobs) list (letters_of_one members at cluster q (advice from) from ++ flat_map (λ who. letters_of_one members at cluster q (advice who) who) (range_with_len (from + 1) count)))
+          subst (λ list. AllZip (IsHeardLike members size) list (letters_of_one members at cluster q (advice from) from ++ flat_map (λ who. letters_of_one members at cluster q (advice who) who) (range_with_len (from + 1) count)))
           (sym (filter-append (is_to q) passes.more behind.more))
-          (zip_append (IsHeardLike members jobs) (filter (is_to q) passes.more) (letters_of_one members at cluster q (advice from) from) (filter (is_to q) behind.more) _
-          (subst (λ list. AllZip (IsHeardLike members jobs) (filter (is_to q) passes.more) list) here
-          (subst (λ s. AllZip (IsHeardLike members jobs) (filter (is_to q) passes.more) (letters_to (identity_of members from) q (told_by at cluster takes.advice from) s)) begins.replica
-          (passes.letters (whole_left members jobs passes.more behind.more whole) q below)))
-          (subst (λ list. AllZip (IsHeardLike members jobs) (filter (is_to q) behind.more) list) there
-          (behind.letters (whole_right members jobs passes.more behind.more whole) q below)));
+          (zip_append (IsHeardLike members size) (filter (is_to q) passes.more) (letters_of_one members at cluster q (advice from) from) (filter (is_to q) behind.more) _
+          (subst (λ list. AllZip (IsHeardLike members size) (filter (is_to q) passes.more) list) here
+          (subst (λ s. AllZip (IsHeardLike members size) (filter (is_to q) passes.more) (letters_to (identity_of members from) q (told_by at cluster takes.advice from) s)) begins.replica
+          (passes.letters (whole_left members size passes.more behind.more whole) q below)))
+          (subst (λ list. AllZip (IsHeardLike members size) (filter (is_to q) behind.more) list) there
+          (behind.letters (whole_right members size passes.more behind.more whole) q below)));
     }
 
 pub all_parts : (members : ℕ) (table : Table) (at : ℤ) (from count : ℕ) (tasks : ℕ → List Task) (cluster : Cluster) (situation : Situation) (rows : List Row)

@@ -1,13 +1,14 @@
 -- What a campaign and the rounds of a drain make of a legal book of one replica.
 use Rattle.std.proofs.Common.{◌≡◌, ℕ, zero, suc, ◌-◌, ◌<◌, List, [], ◌∷◌, ◌++◌, append-nil, length, Option, None, Some, ℤ, refl, sym, ap, ◌∙◌, inl, inr, ◌⊎◌, arith, subst}
 use Rattle.std.specs.List.{AllZip, filter, range_with_len, slice_get}
+use Rattle.paxos_base.specs.declared.rows.TableSize.{TableSize}
 use Rattle.paxos_base.specs.Vote.{votes_from}
 use Rattle.paxos_base.specs.declared.rows.JobRow.{JobRow}
 use Rattle.paxos_base.specs.declared.entry.Vote.{Vote}
 use Rattle.cluster_sched.specs.declared.row.SchedRow.{SchedRow}
 use Rattle.due_set.specs.Table.{IsSound, Table}
 use Rattle.launch_machine.specs.Answers.{IsIntent}
-use Rattle.launch_machine.specs.Clerk.{first_rows}
+use Rattle.launch_machine.specs.Clerk.{first_rows, table_size}
 use Rattle.launch_machine.specs.declared.machine.Intent.TheVariants as intent
 use Rattle.launch_machine.proofs.ClerkLemmas.{AppliesAll-same}
 use Rattle.launch_machine.proofs.ExistLemmas.{all_applied}
@@ -200,7 +201,7 @@ drain_stands table at book rows situation after leads goes =
 
 -- the situation stands for its replica without a letter, and the answer that waits for it
 stands_alone : (table : Table) (situation : Situation) (waits : Option SchedRow) → situation.standing.waits 0 ≡ waits → situation.mails 0 ≡ []
-    → StandsForCluster 1 (length table.jobs) situation (unheard situation.standing.replicas waits)
+    → StandsForCluster 1 (table_size table) situation (unheard situation.standing.replicas waits)
 stands_alone table situation waits same none = record {
   replicas = λ who below. refl;
   waits = λ who below. waits_there who below;
@@ -211,13 +212,13 @@ stands_alone table situation waits same none = record {
     waits_there zero below = sym same
     waits_there (suc more) below = absurd (omega (arith, below))
 
-    mail_there : (who : ℕ) → who < 1 → AllZip (IsLetterAt 1 (length table.jobs) situation.standing.posted who) (situation.mails who) []
-    mail_there zero below = subst (λ list. AllZip (IsLetterAt 1 (length table.jobs) situation.standing.posted 0) list []) (sym none) tt
+    mail_there : (who : ℕ) → who < 1 → AllZip (IsLetterAt 1 (table_size table) situation.standing.posted who) (situation.mails who) []
+    mail_there zero below = subst (λ list. AllZip (IsLetterAt 1 (table_size table) situation.standing.posted 0) list []) (sym none) tt
     mail_there (suc more) below = absurd (omega (arith, below))
 
-no_letters : (posted : List PostedLetter) (jobs : ℕ) (numbers : List ℕ) → AllZip (IsLetterAt 1 jobs posted 0) numbers [] → numbers ≡ []
-no_letters posted jobs [] zips = refl
-no_letters posted jobs (number ∷ numbers) zips = absurd zips
+no_letters : (posted : List PostedLetter) (size : TableSize) (numbers : List ℕ) → AllZip (IsLetterAt 1 size posted 0) numbers [] → numbers ≡ []
+no_letters posted size [] zips = refl
+no_letters posted size (number ∷ numbers) zips = absurd zips
 
 -- The situation after the round: how the replica leads on, or that it stays so.
 record CameTo (table : Table) (at : ℤ) (situation after : Situation) (leads : LeadsItself table situation) : Type 0 where
@@ -245,7 +246,7 @@ round_comes_to table at book rows situation after leads goes =
     let waits : Option SchedRow = situation.standing.waits 0 in
     let before : Cluster = unheard situation.standing.replicas waits in
     let round = drain_is_round table at book rows situation after leads goes in
-    let stands : StandsForCluster 1 (length table.jobs) situation before = stands_alone table situation waits refl leads.unheard in
+    let stands : StandsForCluster 1 (table_size table) situation before = stands_alone table situation waits refl leads.unheard in
     let one : StandsForRound 1 table at before after = round_is_synchronous 1 table at book rows situation after before round stands in
     let next : Cluster = cluster_round 1 at one.advice one.answers before in
     let advised : IsAdvised 1 leads.at.table at one.advice before = subst (λ t. IsAdvised 1 t at one.advice before) (sym leads.over) one.advised in
@@ -256,8 +257,8 @@ round_comes_to table at book rows situation after leads goes =
     record {
       on = subst (λ w. LeadsOn leads.best leads.at at waits state w (after.standing.replicas 0)) waits_then
           (subst (λ s. LeadsOn leads.best leads.at at waits state (one.answers 0) s) replica_then went.on);
-      unheard_then = no_letters after.standing.posted (length table.jobs) (after.mails 0)
-          (subst (λ list. AllZip (IsLetterAt 1 (length table.jobs) after.standing.posted 0) (after.mails 0) list) went.unheard_then (one.stands.mails 0 (omega arith)));
+      unheard_then = no_letters after.standing.posted (table_size table) (after.mails 0)
+          (subst (λ list. AllZip (IsLetterAt 1 (table_size table) after.standing.posted 0) (after.mails 0) list) went.unheard_then (one.stands.mails 0 (omega arith)));
       stays = λ none unbound rests. rest_stays table at situation after leads waits none unbound rests one;
       faultless = round_leaves_no_fault 1 table at book rows situation after before round stands;
     }

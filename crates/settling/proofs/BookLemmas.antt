@@ -3,7 +3,7 @@ use Rattle.std.proofs.Common.{◌≡◌, ℕ, ◌^◌, ◌<◌, ◌≤◌, ltb, 
 use Rattle.std.proofs.lemmas.Bool.{and_from, lt-ltb}
 use Rattle.std.proofs.lemmas.List.Sums.{fold-append}
 use Rattle.due_set.specs.Table.{IsSound, Table}
-use Rattle.launch_machine.specs.Clerk.{first_rows}
+use Rattle.launch_machine.specs.Clerk.{first_rows, table_size}
 use Rattle.paxos_letter.proofs.LetterLemmas.{letters_have_packets}
 use Rattle.step_spec.specs.Coherent.{IsCoherent}
 use Rattle.step_spec.specs.Letters.{are_small}
@@ -30,12 +30,12 @@ stand_after members table book rows situation is =
 
 pub letters_are_whole : (members : ℕ) (table : Table) (book : List Row) → members ≤ 7 → IsSound table → IsLegal members table book
     → IsWithinBounds book (standing_after members (first_rows table) book).posted
-    → AreWhole members (length table.jobs) (standing_after members (first_rows table) book).posted
+    → AreWhole members (table_size table) (standing_after members (first_rows table) book).posted
 letters_are_whole members table book few sound legal limits letter has packets spells =
     let small_bytes = limits.letters letter has in
     let long = (letters_have_packets members letter.from packets letter.bytes spells).1 in
     let fewer : length packets < 2 ^ 31 = omega (arith, long, small_bytes) in
-    and_from (ltb (length packets) (2 ^ 31)) (are_small (length table.jobs) packets) (lt-ltb (length packets) (2 ^ 31) fewer)
+    and_from (ltb (length packets) (2 ^ 31)) (are_small (table_size table) packets) (lt-ltb (length packets) (2 ^ 31) fewer)
     (letters_small members table book letter packets few sound legal limits.turns has spells)
 
 pub book_coherent : (members : ℕ) (table : Table) (book : List Row) (who : ℕ) → members ≤ 7 → IsLegal members table book → who < members

@@ -1,8 +1,9 @@
 -- The two parts of a round of a drain: a campaign or none, and the round.
 use Rattle.std.proofs.Common.{◌≡◌, ℕ, ◌-◌, ◌≤◌, List, [], ◌∷◌, ◌++◌, append_assoc, append-nil, length, ℤ, refl, sym, ap, ◌∙◌, arith, subst}
 use Rattle.std.specs.List.{AllZip, filter, range_with_len, slice_get}
+use Rattle.paxos_base.specs.declared.rows.TableSize.{TableSize}
 use Rattle.due_set.specs.Table.{Table}
-use Rattle.launch_machine.specs.Clerk.{first_rows}
+use Rattle.launch_machine.specs.Clerk.{first_rows, table_size}
 use Rattle.term_core.specs.declared.term.Term.{Term}
 use Rattle.term_core.specs.declared.term.Term.TheVariants.{Follower, Candidate, Leader}
 use Rattle.history.specs.Book.{Row, Standing, standing_after}
@@ -38,13 +39,13 @@ nothing_performed members situation after rows performs =
     performs.is ∙ ap (λ list. delivered (length situation.standing.posted) (after_turns members situation list)) performs.turns
 
 -- what stood stands where no turn was taken
-nothing_stands : (members jobs : ℕ) (situation after : Situation) (rows : List Row) (cluster : Cluster) → Performs members [] situation rows after → StandsForCluster members jobs situation cluster → StandsForCluster members jobs after cluster
-nothing_stands members jobs situation after rows cluster performs there =
-    subst (λ (s : Situation). StandsForCluster members jobs s cluster) (sym (nothing_performed members situation after rows performs)) (record {
+nothing_stands : (members : ℕ) (size : TableSize) (situation after : Situation) (rows : List Row) (cluster : Cluster) → Performs members [] situation rows after → StandsForCluster members size situation cluster → StandsForCluster members size after cluster
+nothing_stands members size situation after rows cluster performs there =
+    subst (λ (s : Situation). StandsForCluster members size s cluster) (sym (nothing_performed members situation after rows performs)) (record {
       replicas = there.replicas;
       waits = there.waits;
       mails = λ who below.
-          subst (λ list. AllZip (IsLetterAt members jobs situation.standing.posted who) list (cluster.mails who))
+          subst (λ list. AllZip (IsLetterAt members size situation.standing.posted who) list (cluster.mails who))
           (sym (ap (λ more. situation.mails who ++ more) (none_join situation who) ∙ append-nil (situation.mails who))) (there.mails who below);
     })
 
@@ -128,7 +129,7 @@ pub record AtRound (members : ℕ) (table : Table) (at : ℤ) (cluster : Cluster
   pub rows : List Row
   pub situation : Situation
   pub goes : GoesRound members table at book rows situation after
-  pub stands : StandsForCluster members (length table.jobs) situation cluster
+  pub stands : StandsForCluster members (table_size table) situation cluster
 
 abbrev asked_of : ℕ → Tasks
 asked_of who situation = campaign_tasks who (situation.standing.replicas who).term
@@ -141,7 +142,7 @@ drain_parts members table who at book rows situation after goes =
 
 -- where the replica asks for no campaign, the round comes at once
 pub waits_round : (members : ℕ) (table : Table) (who : ℕ) (at : ℤ) (book rows : List Row) (situation after : Situation) (cluster : Cluster) → GoesDrainRound members table who at book rows situation after
-    → StandsForCluster members (length table.jobs) situation cluster → campaign_tasks who (situation.standing.replicas who).term ≡ [] → AtRound members table at cluster after
+    → StandsForCluster members (table_size table) situation cluster → campaign_tasks who (situation.standing.replicas who).term ≡ [] → AtRound members table at cluster after
 waits_round members table who at book rows situation after cluster goes there none =
     let parts = drain_parts members table who at book rows situation after goes in
     let performs : Performs members [] situation parts.front parts.middle =
@@ -151,12 +152,12 @@ waits_round members table who at book rows situation after cluster goes there no
       rows = parts.back;
       situation = parts.middle;
       goes = parts.second (nothing_fails members situation parts.middle parts.front performs goes.faultless);
-      stands = nothing_stands members (length table.jobs) situation parts.middle parts.front cluster performs there;
+      stands = nothing_stands members (table_size table) situation parts.middle parts.front cluster performs there;
     }
 
 -- where it asks for one, the round comes after the campaign
 pub campaigns_round : (members : ℕ) (table : Table) (who : ℕ) (at : ℤ) (book rows : List Row) (situation after : Situation) (cluster : Cluster) → 2 ≤ members → GoesDrainRound members table who at book rows situation after
-    → StandsForCluster members (length table.jobs) situation cluster → campaign_tasks who (situation.standing.replicas who).term ≡ Do who Campaign ∷ []
+    → StandsForCluster members (table_size table) situation cluster → campaign_tasks who (situation.standing.replicas who).term ≡ Do who Campaign ∷ []
     → AtRound members table at (after_campaign members who (unanswered who cluster)) after
 campaigns_round members table who at book rows situation after cluster more goes there one =
     let parts = drain_parts members table who at book rows situation after goes in
@@ -181,7 +182,7 @@ campaigns_round members table who at book rows situation after cluster more goes
 
 -- whatever it is, no fault comes of the round
 pub drain_leaves_no_fault : (members : ℕ) (table : Table) (who : ℕ) (at : ℤ) (book rows : List Row) (situation after : Situation) (cluster : Cluster) → 2 ≤ members → GoesDrainRound members table who at book rows situation after
-    → StandsForCluster members (length table.jobs) situation cluster → IsFaultless members after
+    → StandsForCluster members (table_size table) situation cluster → IsFaultless members after
 drain_leaves_no_fault members table who at book rows situation after cluster more goes there = go (situation.standing.replicas who).term refl
   where
     by_round : (cluster : Cluster) → AtRound members table at cluster after → IsFaultless members after

@@ -3,7 +3,7 @@ use Rattle.std.proofs.Common.{◌≡◌, ℕ, ◌<◌, List, [], ◌++◌, lengt
 use Rattle.std.proofs.lemmas.Int.{ints, clamps}
 use Rattle.std.specs.List.{AllZip}
 use Rattle.due_set.specs.Table.{Table}
-use Rattle.launch_machine.specs.Clerk.{first_rows}
+use Rattle.launch_machine.specs.Clerk.{first_rows, table_size}
 use Rattle.zone_minutes.specs.Window.{IsInWindow}
 use Rattle.zone_minutes.specs.declared.minute.Window.{Window}
 use Rattle.step_spec.specs.Coherent.{IsCoherent}
@@ -31,7 +31,7 @@ reads_right window at within =
 
 -- a replica at the beginning of the round
 begins : (members : ℕ) (table : Table) (at : ℤ) (book rows : List Row) (situation after : Situation) (cluster : Cluster) → GoesRound members table at book rows situation after
-    → StandsForCluster members (length table.jobs) situation cluster → (who : ℕ) → who < members
+    → StandsForCluster members (table_size table) situation cluster → (who : ℕ) → who < members
     → BeginsPart members table at (tasks_of table.window at situation) cluster situation who
 begins members table at book rows situation after cluster goes there who member =
     let runs = goes.faultless.runs who member in
@@ -48,7 +48,7 @@ begins members table at book rows situation after cluster goes there who member 
 
 -- what all have done
 parts_of : (members : ℕ) (table : Table) (at : ℤ) (book rows : List Row) (situation after : Situation) (cluster : Cluster) → GoesRound members table at book rows situation after
-    → StandsForCluster members (length table.jobs) situation cluster → HadParts members table at 0 members cluster situation rows
+    → StandsForCluster members (table_size table) situation cluster → HadParts members table at 0 members cluster situation rows
 parts_of members table at book rows situation after cluster goes there =
     all_parts members table at 0 members (tasks_of table.window at situation) cluster situation rows
     (λ who least below. begins members table at book rows situation after cluster goes there who (omega (arith, below)))
@@ -57,36 +57,36 @@ parts_of members table at book rows situation after cluster goes there =
 
 -- what was posted in the round is heard whole
 posted_whole : (members : ℕ) (table : Table) (at : ℤ) (book rows : List Row) (situation after : Situation) (more : List PostedLetter) → GoesRound members table at book rows situation after
-    → (after_turns members situation rows).standing.posted ≡ situation.standing.posted ++ more → AreWhole members (length table.jobs) more
+    → (after_turns members situation rows).standing.posted ≡ situation.standing.posted ++ more → AreWhole members (table_size table) more
 posted_whole members table at book rows situation after more goes posted =
-    let jobs = length table.jobs in
+    let size = table_size table in
     let all = (standing_after members (first_rows table) (book ++ rows)).posted in
     let stood : (after_turns members situation rows).standing ≡ standing_after members (first_rows table) (book ++ rows) = stand_after members table book rows situation goes.standing in
     let same : after.standing.posted ≡ all = ap (λ (s : Situation). s.standing.posted) goes.round.is ∙ ap (λ (s : Standing). s.posted) stood in
     let parts : all ≡ situation.standing.posted ++ more = ap (λ (s : Standing). s.posted) (sym stood) ∙ posted in
     let whole = letters_are_whole members table (book ++ rows) goes.few goes.sound goes.legal (subst (λ list. IsWithinBounds (book ++ rows) list) same goes.limits) in
-    whole_right members jobs situation.standing.posted more (subst (λ list. AreWhole members jobs list) parts whole)
+    whole_right members size situation.standing.posted more (subst (λ list. AreWhole members size list) parts whole)
 
 -- the mails after the round
 mails_then : (members : ℕ) (table : Table) (at : ℤ) (book rows : List Row) (situation after : Situation) (cluster : Cluster) → GoesRound members table at book rows situation after
     → (had : HadParts members table at 0 members cluster situation rows) → (who : ℕ) → who < members
-    → AllZip (IsLetterAt members (length table.jobs) after.standing.posted who) (after.mails who) ((cluster_round members at had.advice had.answers cluster).mails who)
+    → AllZip (IsLetterAt members (table_size table) after.standing.posted who) (after.mails who) ((cluster_round members at had.advice had.answers cluster).mails who)
 mails_then members table at book rows situation after cluster goes had who member =
-    let jobs = length table.jobs in
+    let size = table_size table in
     let letters = (cluster_round members at had.advice had.answers cluster).mails who in
     let first = length situation.standing.posted in
     let is : after ≡ delivered first had.later = goes.round.is ∙ ap (λ (s : Situation). delivered first s) had.is in
     let whole = posted_whole members table at book rows situation after had.more goes (ap (λ (s : Situation). s.standing.posted) had.is ∙ had.posted) in
-    let joined = letters_join members jobs had.later situation.standing.posted had.more who letters had.posted
+    let joined = letters_join members size had.later situation.standing.posted had.more who letters had.posted
     (ap (λ runs. runs who) had.runs ∙ goes.faultless.runs who member) (had.cuts ∙ goes.faultless.uncut) (had.letters whole who member) in
     let none : had.later.mails who ≡ [] = (had.own who (omega arith) (omega (arith, member))).mailed in
     let mail : after.mails who ≡ letters_for had.later first who =
     ap (λ (s : Situation). s.mails who) is ∙ ap (λ list. list ++ letters_for had.later first who) none in
-    subst (λ list. AllZip (IsLetterAt members jobs after.standing.posted who) list letters) (sym mail)
-    (subst (λ posted. AllZip (IsLetterAt members jobs posted who) (letters_for had.later first who) letters) (ap (λ (s : Situation). s.standing.posted) (sym is)) joined)
+    subst (λ list. AllZip (IsLetterAt members size after.standing.posted who) list letters) (sym mail)
+    (subst (λ posted. AllZip (IsLetterAt members size posted who) (letters_for had.later first who) letters) (ap (λ (s : Situation). s.standing.posted) (sym is)) joined)
 
 pub round_is_synchronous : (members : ℕ) (table : Table) (at : ℤ) (book rows : List Row) (situation after : Situation) (cluster : Cluster) → GoesRound members table at book rows situation after
-    → StandsForCluster members (length table.jobs) situation cluster → StandsForRound members table at cluster after
+    → StandsForCluster members (table_size table) situation cluster → StandsForRound members table at cluster after
 round_is_synchronous members table at book rows situation after cluster goes there =
     let had = parts_of members table at book rows situation after cluster goes there in
     let own : (who : ℕ) → who < members → HadPart members table at cluster had.later who (had.advice who) (had.answers who) =
@@ -110,7 +110,7 @@ round_is_synchronous members table at book rows situation after cluster goes the
     }
 
 pub round_leaves_no_fault : (members : ℕ) (table : Table) (at : ℤ) (book rows : List Row) (situation after : Situation) (cluster : Cluster) → GoesRound members table at book rows situation after
-    → StandsForCluster members (length table.jobs) situation cluster → IsFaultless members after
+    → StandsForCluster members (table_size table) situation cluster → IsFaultless members after
 round_leaves_no_fault members table at book rows situation after cluster goes there =
     let had = parts_of members table at book rows situation after cluster goes there in
     let is : after ≡ delivered (length situation.standing.posted) had.later = goes.round.is ∙ ap (λ (s : Situation). delivered (length situation.standing.posted) s) had.is in

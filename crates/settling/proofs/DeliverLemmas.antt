@@ -1,4 +1,5 @@
 -- The letters of a round join the mails of those that hear them in the next.
+use Rattle.paxos_base.specs.declared.rows.TableSize.{TableSize}
 use Rattle.std.proofs.Common.{◌≡◌, ℕ, suc, ◌+◌, ◌-◌, Bool, true, false, Option, Some, List, [], ◌∷◌, ◌++◌, length, refl, sym, ap, ◌∙◌, inl, inr, arith, subst, cond}
 use Rattle.std.specs.Prelude.{◌&&◌}
 use Rattle.std.specs.List.{AllZip, filter, range_with_len, slice_get}
@@ -45,28 +46,28 @@ and_true false = refl
 reaches_to : (situation : Situation) (who : ℕ) → situation.standing.runs who ≡ true → situation.cuts ≡ [] → (letter : PostedLetter) → reaches situation who (Some letter) ≡ is_to who letter
 reaches_to situation who runs uncut letter = rw (runs, uncut) (and_true (is_to who letter))
 
-zip_through : (members jobs : ℕ) (posted : List PostedLetter) (who : ℕ) (numbers : List ℕ) (sent : List PostedLetter) (letters : List HeardLetter)
-    → AllZip (IsAt posted who) numbers sent → AllZip (IsHeardLike members jobs) sent letters → AllZip (IsLetterAt members jobs posted who) numbers letters
-zip_through members jobs posted who [] [] [] at heard = tt
-zip_through members jobs posted who [] [] (letter ∷ letters) at heard = absurd heard
-zip_through members jobs posted who [] (one ∷ sent) letters at heard = absurd at
-zip_through members jobs posted who (number ∷ numbers) [] letters at heard = absurd at
-zip_through members jobs posted who (number ∷ numbers) (one ∷ sent) [] at heard = absurd heard
-zip_through members jobs posted who (number ∷ numbers) (one ∷ sent) (letter ∷ letters) at heard = (
+zip_through : (members : ℕ) (size : TableSize) (posted : List PostedLetter) (who : ℕ) (numbers : List ℕ) (sent : List PostedLetter) (letters : List HeardLetter)
+    → AllZip (IsAt posted who) numbers sent → AllZip (IsHeardLike members size) sent letters → AllZip (IsLetterAt members size posted who) numbers letters
+zip_through members size posted who [] [] [] at heard = tt
+zip_through members size posted who [] [] (letter ∷ letters) at heard = absurd heard
+zip_through members size posted who [] (one ∷ sent) letters at heard = absurd at
+zip_through members size posted who (number ∷ numbers) [] letters at heard = absurd at
+zip_through members size posted who (number ∷ numbers) (one ∷ sent) [] at heard = absurd heard
+zip_through members size posted who (number ∷ numbers) (one ∷ sent) (letter ∷ letters) at heard = (
   record { sent = one; there = at.0.0; to = at.0.1; heard = heard.0 },
-  zip_through members jobs posted who numbers sent letters at.1 heard.1,
+  zip_through members size posted who numbers sent letters at.1 heard.1,
 )
 
-pub letters_join : (members jobs : ℕ) (situation : Situation) (front more : List PostedLetter) (who : ℕ) (letters : List HeardLetter)
+pub letters_join : (members : ℕ) (size : TableSize) (situation : Situation) (front more : List PostedLetter) (who : ℕ) (letters : List HeardLetter)
     → situation.standing.posted ≡ front ++ more → situation.standing.runs who ≡ true → situation.cuts ≡ []
-    → AllZip (IsHeardLike members jobs) (filter (is_to who) more) letters
-    → AllZip (IsLetterAt members jobs situation.standing.posted who) (letters_for situation (length front) who) letters
-letters_join members jobs situation front more who letters posted runs uncut heard =
+    → AllZip (IsHeardLike members size) (filter (is_to who) more) letters
+    → AllZip (IsLetterAt members size situation.standing.posted who) (letters_for situation (length front) who) letters
+letters_join members size situation front more who letters posted runs uncut heard =
     let all = situation.standing.posted in
     let many : length all - length front ≡ length more =
     let long : length all ≡ length front + length more = ap length posted ∙ length-append front more in omega (arith, long) in
     let test = reaches situation who in
     let at = numbers_at all who test (reaches_to situation who runs uncut) (length front) more
     (λ k letter is. subst (λ list. slice_get list (length front + k) ≡ Some letter) (sym posted) (back_has front more k letter is)) in
-    zip_through members jobs all who (letters_for situation (length front) who) (filter (is_to who) more) letters
+    zip_through members size all who (letters_for situation (length front) who) (filter (is_to who) more) letters
     (subst (λ n. AllZip (IsAt all who) (filter (λ number. test (slice_get all number)) (range_with_len (length front) n)) (filter (is_to who) more)) (sym many) at) heard

@@ -1,12 +1,12 @@
 -- One that leads alone and is idle, round by round, and when that is quiet.
-use Rattle.std.proofs.Common.{◌≡◌, ℕ, zero, suc, ◌<◌, ◌≤◌, List, [], length, None, Some, ℤ, refl, sym, ap, ◌∙◌, inl, inr, arith, subst}
+use Rattle.std.proofs.Common.{◌≡◌, ℕ, zero, suc, ◌<◌, ◌≤◌, List, [], None, Some, ℤ, refl, sym, ap, ◌∙◌, inl, inr, arith, subst}
 use Rattle.std.proofs.lemmas.Bool.{cases_eq}
 use Rattle.paxos_base.specs.Vote.{votes_from}
 use Rattle.paxos_base.specs.declared.entry.Entry.{Entry}
 use Rattle.paxos_base.specs.declared.entry.Vote.{Vote}
 use Rattle.due_set.specs.Table.{Table}
 use Rattle.launch_machine.specs.Answers.{IsIntent}
-use Rattle.launch_machine.specs.Clerk.{first_rows}
+use Rattle.launch_machine.specs.Clerk.{first_rows, table_size}
 use Rattle.launch_machine.specs.declared.machine.Intent.TheVariants.{Rest}
 use Rattle.launch_machine.proofs.ClerkLemmas.{AppliesAll-same}
 use Rattle.step_spec.specs.State.{State, prefix_of, promised_in}
@@ -81,7 +81,7 @@ record HasBeenIdleFor (rounds members : ℕ) (table : Table) (who : ℕ) (at : �
   are : AreRoundsAt rounds members who far.table at first last
   base : ℕ
   is : IsIdle members who best (with_base base far) at last
-  stands : StandsForCluster members (length table.jobs) situation last
+  stands : StandsForCluster members (table_size table) situation last
 
 still_alone : (rounds members : ℕ) (table : Table) (who : ℕ) (at : ℤ) (situation : Situation) → HasBeenIdleFor rounds members table who at situation → LeadsAlone members table who situation
 still_alone rounds members table who at situation has =

@@ -8,7 +8,7 @@ use Rattle.paxos_base.specs.declared.rows.JobRow.{JobRow}
 use Rattle.cluster_sched.specs.declared.row.SchedRow.{SchedRow}
 use Rattle.due_set.specs.Table.{Table}
 use Rattle.launch_machine.specs.Answers.{IsIntent}
-use Rattle.launch_machine.specs.Clerk.{first_rows}
+use Rattle.launch_machine.specs.Clerk.{first_rows, table_size}
 use Rattle.launch_machine.specs.declared.machine.Intent.TheVariants.{Rest}
 use Rattle.launch_machine.proofs.ClerkLemmas.{AppliesAll-same}
 use Rattle.term_core.specs.Term.{best_votes}
@@ -140,7 +140,7 @@ fewer_left best at later flight next_flight waits next_waits state next leading 
 
 -- ---- idle
 
-pub free_rests : (members : ℕ) (table : Table) (who : ℕ) (best : List Vote) (far : Progress) (now : ℤ) (cluster : Cluster) (situation : Situation) → far.table ≡ table → StandsForCluster members (length table.jobs) situation cluster → IsFreeNow members who best far cluster → votes_from far.prefix best ≡ [] → IsIntent far.table far.rows now Rest → IsIdleAt table who now situation
+pub free_rests : (members : ℕ) (table : Table) (who : ℕ) (best : List Vote) (far : Progress) (now : ℤ) (cluster : Cluster) (situation : Situation) → far.table ≡ table → StandsForCluster members (table_size table) situation cluster → IsFreeNow members who best far cluster → votes_from far.prefix best ≡ [] → IsIntent far.table far.rows now Rest → IsIdleAt table who now situation
 free_rests members table who best far now cluster situation over stands it unbound rests =
     let member = it.free.led_alone.member in
     let leading = it.free.leading in

@@ -1,9 +1,10 @@
 -- The campaign of one that has learned the most, where no letter is on its way, is a first campaign.
-use Rattle.std.proofs.Common.{◌≡◌, ℕ, ◌-◌, ◌<◌, ◌≤◌, List, [], length, None, ℤ, refl, sym, inr, arith, subst}
+use Rattle.std.proofs.Common.{◌≡◌, ℕ, ◌-◌, ◌<◌, ◌≤◌, List, [], None, ℤ, refl, sym, inr, arith, subst}
 use Rattle.std.specs.List.{AllZip}
+use Rattle.paxos_base.specs.declared.rows.TableSize.{TableSize}
 use Rattle.paxos_base.specs.declared.rows.JobRow.{JobRow}
 use Rattle.due_set.specs.Table.{Table}
-use Rattle.launch_machine.specs.Clerk.{first_rows}
+use Rattle.launch_machine.specs.Clerk.{first_rows, table_size}
 use Rattle.launch_machine.proofs.ExistLemmas.{all_applied}
 use Rattle.step_spec.specs.Propose.{next_ballot}
 use Rattle.step_spec.specs.State.{promised_in}
@@ -29,11 +30,11 @@ use Rattle.history.proofs.Standings.{fact_here}
 abbrev unread : Situation → Cluster
 unread situation = record { replicas = situation.standing.replicas; waits = situation.standing.waits; mails = λ who. [] }
 
-unread_stands : (members jobs : ℕ) (situation : Situation) → ((who : ℕ) → who < members → situation.mails who ≡ []) → StandsForCluster members jobs situation (unread situation)
-unread_stands members jobs situation empty = record {
+unread_stands : (members : ℕ) (size : TableSize) (situation : Situation) → ((who : ℕ) → who < members → situation.mails who ≡ []) → StandsForCluster members size situation (unread situation)
+unread_stands members size situation empty = record {
   replicas = λ who below. refl;
   waits = λ who below. refl;
-  mails = λ who below. subst (λ numbers. AllZip (IsLetterAt members jobs situation.standing.posted who) numbers []) (sym (empty who below)) tt;
+  mails = λ who below. subst (λ numbers. AllZip (IsLetterAt members size situation.standing.posted who) numbers []) (sym (empty who below)) tt;
 }
 
 -- none of the others has promised the ballot of the campaign
@@ -54,7 +55,7 @@ first_campaign members table at book rows situation after more goes empty = inr 
     over = refl;
     campaigned = campaigned;
   };
-  stands = campaign_stands members table who at book rows situation after (unread situation) more goes (unread_stands members (length table.jobs) situation empty);
+  stands = campaign_stands members table who at book rows situation after (unread situation) more goes (unread_stands members (table_size table) situation empty);
 })
   where
     who : ℕ

@@ -1,9 +1,11 @@
 -- What one replica does in a round: it takes an answer, hears its mail, and its clock ticks.
-use Rattle.std.proofs.Common.{◌≡◌, ℕ, Option, None, Some, IfSome, List, [], ◌∷◌, ◌++◌, length, drop, ℤ, refl, sym, ap, ◌∙◌, subst}
+use Rattle.std.proofs.Common.{◌≡◌, ℕ, Option, None, Some, IfSome, List, [], ◌∷◌, ◌++◌, drop, ℤ, refl, sym, ap, ◌∙◌, subst}
 use Rattle.std.specs.List.{AllZip}
 use Rattle.cluster_sched.specs.declared.fate.Fate.{Fate}
 use Rattle.cluster_sched.specs.declared.fate.Fate.TheVariants as fate
 use Rattle.cluster_sched.specs.declared.row.SchedRow.{SchedRow}
+use Rattle.launch_machine.specs.Clerk.{table_size}
+use Rattle.paxos_base.specs.declared.rows.TableSize.{TableSize}
 use Rattle.due_set.specs.Table.{Table}
 use Rattle.paxos_base.specs.declared.rows.JobRow.{JobRow}
 use Rattle.zone_minutes.specs.declared.minute.Minute.{Minute}
@@ -37,7 +39,7 @@ pub record Part (members : ℕ) (table : Table) (who : ℕ) (events : List Event
   pub same : after_turns members situation rows ≡ after_turns members later rest
   pub turns : AreTurnsFor members later tasks rest
   pub follow : AllFollow members table later.standing rest
-  pub passes : Passes members table (length table.jobs) who events situation later
+  pub passes : Passes members table (table_size table) who events situation later
   pub mailed : later.mails who ≡ mail
 
 part_none : (members : ℕ) (table : Table) (who : ℕ) (mail : List ℕ) (tasks : List Task) (situation : Situation) (rows : List Row)
@@ -49,7 +51,7 @@ part_none members table who mail tasks situation rows turns follow mailed = reco
   same = refl;
   turns = turns;
   follow = follow;
-  passes = pass_none members table (length table.jobs) who situation;
+  passes = pass_none members table (table_size table) who situation;
   mailed = mailed;
 }
 
@@ -63,7 +65,7 @@ part_join members table who xs ys one two tasks more situation rows first second
   same = first.same ∙ second.same;
   turns = second.turns;
   follow = second.follow;
-  passes = pass_join members table (length table.jobs) who xs ys situation first.later second.later first.passes second.passes;
+  passes = pass_join members table (table_size table) who xs ys situation first.later second.later first.passes second.passes;
   mailed = second.mailed;
 }
 
@@ -78,8 +80,8 @@ part_one members table who cause event mail tasks situation row rows does turns 
   same = refl;
   turns = turns;
   follow = follow.1;
-  passes = subst (λ e. Passes members table (length table.jobs) who (e ∷ []) situation (after_turn members situation row)) is
-      (turn_passes members table (length table.jobs) who cause does.made situation row does.is follow.0);
+  passes = subst (λ e. Passes members table (table_size table) who (e ∷ []) situation (after_turn members situation row)) is
+      (turn_passes members table (table_size table) who cause does.made situation row does.is follow.0);
   mailed = ap (λ turn. mails_after turn situation.mails who) does.is ∙ mailed;
 }
 
@@ -108,19 +110,19 @@ answers_part members table who (Some answer) tasks situation (row ∷ rows) are 
 
 -- ---- a mail
 
-pub zip_posted : (members jobs : ℕ) (posted more : List PostedLetter) (who : ℕ) (numbers : List ℕ) (letters : List HeardLetter)
-    → AllZip (IsLetterAt members jobs posted who) numbers letters → AllZip (IsLetterAt members jobs (posted ++ more) who) numbers letters
-zip_posted members jobs posted more who [] [] zips = zips
-zip_posted members jobs posted more who [] (letter ∷ letters) zips = absurd zips
-zip_posted members jobs posted more who (number ∷ numbers) [] zips = absurd zips
-zip_posted members jobs posted more who (number ∷ numbers) (letter ∷ letters) (one, zips) = (
+pub zip_posted : (members : ℕ) (size : TableSize) (posted more : List PostedLetter) (who : ℕ) (numbers : List ℕ) (letters : List HeardLetter)
+    → AllZip (IsLetterAt members size posted who) numbers letters → AllZip (IsLetterAt members size (posted ++ more) who) numbers letters
+zip_posted members size posted more who [] [] zips = zips
+zip_posted members size posted more who [] (letter ∷ letters) zips = absurd zips
+zip_posted members size posted more who (number ∷ numbers) [] zips = absurd zips
+zip_posted members size posted more who (number ∷ numbers) (letter ∷ letters) (one, zips) = (
   record { sent = one.sent; there = found_still posted more number one.sent one.there; to = one.to; heard = one.heard },
-  zip_posted members jobs posted more who numbers letters zips,
+  zip_posted members size posted more who numbers letters zips,
 )
 
 -- the event of a letter that is heard
 heard_event : (members : ℕ) (table : Table) (situation : Situation) (who number : ℕ) (letter : HeardLetter) (event : Event)
-    → TakesTurn members table situation.standing who (Hear number) event → IsLetterAt members (length table.jobs) situation.standing.posted who number letter
+    → TakesTurn members table situation.standing who (Hear number) event → IsLetterAt members (table_size table) situation.standing.posted who number letter
     → event ≡ told.Hear letter.from letter.messages
 heard_event members table situation who number letter event takes at =
     one_event members table situation.standing who (Hear number) event (told.Hear letter.from letter.messages) takes
@@ -132,7 +134,7 @@ heard_event members table situation who number letter event takes at =
     })
 
 pub hears_part : (members : ℕ) (table : Table) (who : ℕ) (numbers : List ℕ) (letters : List HeardLetter) (tasks : List Task) (situation : Situation) (rows : List Row)
-    → situation.mails who ≡ numbers → AllZip (IsLetterAt members (length table.jobs) situation.standing.posted who) numbers letters
+    → situation.mails who ≡ numbers → AllZip (IsLetterAt members (table_size table) situation.standing.posted who) numbers letters
     → AreTurnsFor members situation (hear_tasks who numbers ++ tasks) rows → AllFollow members table situation.standing rows
     → Part members table who (hear_events letters) [] tasks situation rows
 hears_part members table who [] [] tasks situation rows mailed zips turns follow = part_none members table who [] tasks situation rows turns follow mailed
@@ -140,15 +142,15 @@ hears_part members table who [] (letter ∷ letters) tasks situation rows mailed
 hears_part members table who (number ∷ numbers) [] tasks situation rows mailed zips turns follow = absurd zips
 hears_part members table who (number ∷ numbers) (letter ∷ letters) tasks situation [] mailed zips turns follow = absurd cc
 hears_part members table who (number ∷ numbers) (letter ∷ letters) tasks situation (row ∷ rows) mailed zips turns follow =
-    let jobs = length table.jobs in
+    let size = table_size table in
     let may = subst (λ turn. MayFollow members table situation.standing turn row) turns.0.is follow.0 in
     let event = heard_event members table situation who number letter row.event may.0 zips.0 in
     let first = part_one members table who (Hear number) (told.Hear letter.from letter.messages) numbers (hear_tasks who numbers ++ tasks) situation row rows turns.0 turns.1 follow event
     (fact_here who (drop 1 (situation.mails who)) situation.mails ∙ ap (drop 1) mailed) in
     part_join members table who (told.Hear letter.from letter.messages ∷ []) (hear_events letters) numbers [] (hear_tasks who numbers ++ tasks) tasks situation (row ∷ rows) first
     (hears_part members table who numbers letters tasks first.later first.rest first.mailed
-    (subst (λ posted. AllZip (IsLetterAt members jobs posted who) numbers letters) (sym first.passes.posted)
-    (zip_posted members jobs situation.standing.posted first.passes.more who numbers letters zips.1))
+    (subst (λ posted. AllZip (IsLetterAt members size posted who) numbers letters) (sym first.passes.posted)
+    (zip_posted members size situation.standing.posted first.passes.more who numbers letters zips.1))
     first.turns first.follow)
 
 -- ---- a tick
@@ -207,21 +209,21 @@ pub record TakesPart (members : ℕ) (table : Table) (at : ℤ) (who : ℕ) (wai
 
 pub takes_part : (members : ℕ) (table : Table) (at : ℤ) (now : Minute) (who : ℕ) (waits : Option SchedRow) (numbers : List ℕ) (mail : List HeardLetter) (tasks : List Task) (situation : Situation) (rows : List Row)
     → now.0 ≡ at → situation.standing.waits who ≡ waits → situation.mails who ≡ numbers → situation.fates who ≡ fate.Done
-    → AllZip (IsLetterAt members (length table.jobs) situation.standing.posted who) numbers mail
+    → AllZip (IsLetterAt members (table_size table) situation.standing.posted who) numbers mail
     → AreTurnsFor members situation (answer_tasks who waits ++ (hear_tasks who numbers ++ Do who (Tick now) ∷ tasks)) rows
     → AllFollow members table situation.standing rows
     → TakesPart members table at who waits mail tasks situation rows
 unfolding part_join
 takes_part members table at now who waits numbers mail tasks situation rows reads are mailed done zips turns follow =
     let self = identity_of members who in
-    let jobs = length table.jobs in
+    let size = table_size table in
     let heard_tasks : List Task = hear_tasks who numbers ++ Do who (Tick now) ∷ tasks in
     let one = answers_part members table who waits heard_tasks situation rows are turns follow in
     let two = hears_part members table who numbers mail (Do who (Tick now) ∷ tasks) one.part.later one.part.rest (one.part.mailed ∙ mailed)
-    (subst (λ posted. AllZip (IsLetterAt members jobs posted who) numbers mail) (sym one.part.passes.posted)
-    (zip_posted members jobs situation.standing.posted one.part.passes.more who numbers mail zips)) one.part.turns one.part.follow in
+    (subst (λ posted. AllZip (IsLetterAt members size posted who) numbers mail) (sym one.part.passes.posted)
+    (zip_posted members size situation.standing.posted one.part.passes.more who numbers mail zips)) one.part.turns one.part.follow in
     let three = ticks_part members table at now who [] tasks two.later two.rest reads two.mailed (two.passes.done who (one.part.passes.done who done)) two.turns two.follow in
-    let both = pass_join members table jobs who (answer_events waits one.known) (hear_events mail) situation one.part.later two.later one.part.passes two.passes in
+    let both = pass_join members table size who (answer_events waits one.known) (hear_events mail) situation one.part.later two.later one.part.passes two.passes in
     let later = part_join members table who (hear_events mail) (told.Tick at three.plan ∷ []) [] [] (Do who (Tick now) ∷ tasks) tasks one.part.later one.part.rest two three.part in
     record {
       advice = record { rows = one.known; plan = three.plan };

@@ -4,6 +4,7 @@ use Rattle.std.specs.List.{AllZip, filter}
 use Rattle.std.proofs.lemmas.Bool.{cases_eq, eq-eqb, ne_eqb}
 use Rattle.std.proofs.lemmas.List.Elements.{Contains-append_left, Contains-append_right, filter-append}
 use Rattle.cluster_sched.specs.declared.fate.Fate.TheVariants as fate
+use Rattle.paxos_base.specs.declared.rows.TableSize.{TableSize}
 use Rattle.due_set.specs.Table.{Table}
 use Rattle.step_spec.specs.Folds.{sent_to}
 use Rattle.step_spec.specs.Step.{Event}
@@ -26,7 +27,7 @@ use Rattle.history.proofs.Standings.{fact_there}
 use Rattle.synchronous_rounds.proofs.SomeIdle.{planned_append as planned_join}
 
 -- The replica has taken the events: it is what they leave, it has posted what they say, and of the others nothing has changed.
-pub record Passes (members : ℕ) (table : Table) (jobs who : ℕ) (events : List Event) (before after : Situation) : Type 0 where
+pub record Passes (members : ℕ) (table : Table) (size : TableSize) (who : ℕ) (events : List Event) (before after : Situation) : Type 0 where
   pub replica : after.standing.replicas who ≡ after_events (identity_of members who) events (before.standing.replicas who)
   pub others : (other : ℕ) → other ≢ who → after.standing.replicas other ≡ before.standing.replicas other
   pub waits : (other : ℕ) → other ≢ who → after.standing.waits other ≡ before.standing.waits other
@@ -38,13 +39,13 @@ pub record Passes (members : ℕ) (table : Table) (jobs who : ℕ) (events : Lis
   pub planned : ArePlanned (identity_of members who) table events (before.standing.replicas who)
   pub more : List PostedLetter
   pub posted : after.standing.posted ≡ before.standing.posted ++ more
-  pub letters : AreWhole members jobs more → (q : ℕ) → q < members
-      → AllZip (IsHeardLike members jobs) (filter (is_to q) more) (letters_to (identity_of members who) q events (before.standing.replicas who))
+  pub letters : AreWhole members size more → (q : ℕ) → q < members
+      → AllZip (IsHeardLike members size) (filter (is_to q) more) (letters_to (identity_of members who) q events (before.standing.replicas who))
 
 -- ---- none, and one part after another
 
-pub pass_none : (members : ℕ) (table : Table) (jobs who : ℕ) (situation : Situation) → Passes members table jobs who [] situation situation
-pass_none members table jobs who situation = record {
+pub pass_none : (members : ℕ) (table : Table) (size : TableSize) (who : ℕ) (situation : Situation) → Passes members table size who [] situation situation
+pass_none members table size who situation = record {
   replica = refl;
   others = λ other apart. refl;
   waits = λ other apart. refl;
@@ -66,15 +67,15 @@ zip_append R [] (u ∷ us) ys vs front back = absurd front
 zip_append R (x ∷ xs) [] ys vs front back = absurd front
 zip_append R (x ∷ xs) (u ∷ us) ys vs front back = (front.0, zip_append R xs us ys vs front.1 back)
 
-pub whole_left : (members jobs : ℕ) (xs ys : List PostedLetter) → AreWhole members jobs (xs ++ ys) → AreWhole members jobs xs
-whole_left members jobs xs ys whole letter has = whole letter (Contains-append_left xs ys letter has)
+pub whole_left : (members : ℕ) (size : TableSize) (xs ys : List PostedLetter) → AreWhole members size (xs ++ ys) → AreWhole members size xs
+whole_left members size xs ys whole letter has = whole letter (Contains-append_left xs ys letter has)
 
-pub whole_right : (members jobs : ℕ) (xs ys : List PostedLetter) → AreWhole members jobs (xs ++ ys) → AreWhole members jobs ys
-whole_right members jobs xs ys whole letter has = whole letter (Contains-append_right xs ys letter has)
+pub whole_right : (members : ℕ) (size : TableSize) (xs ys : List PostedLetter) → AreWhole members size (xs ++ ys) → AreWhole members size ys
+whole_right members size xs ys whole letter has = whole letter (Contains-append_right xs ys letter has)
 
-pub pass_join : (members : ℕ) (table : Table) (jobs who : ℕ) (xs ys : List Event) (before middle after : Situation)
-    → Passes members table jobs who xs before middle → Passes members table jobs who ys middle after → Passes members table jobs who (xs ++ ys) before after
-pass_join members table jobs who xs ys before middle after one two =
+pub pass_join : (members : ℕ) (table : Table) (size : TableSize) (who : ℕ) (xs ys : List Event) (before middle after : Situation)
+    → Passes members table size who xs before middle → Passes members table size who ys middle after → Passes members table size who (xs ++ ys) before after
+pass_join members table size who xs ys before middle after one two =
     let self = identity_of members who in
     let state = before.standing.replicas who in
     record {
@@ -90,12 +91,12 @@ pass_join members table jobs who xs ys before middle after one two =
       more = one.more ++ two.more;
       posted = two.posted ∙ ap (λ list. list ++ two.more) one.posted ∙ append_assoc before.standing.posted one.more two.more;
       letters = λ whole q below.
-          subst (λ list. AllZip (IsHeardLike members jobs) list (letters_to self q (xs ++ ys) state)) (sym (filter-append (is_to q) one.more two.more))
-          (subst (λ list. AllZip (IsHeardLike members jobs) (filter (is_to q) one.more ++ filter (is_to q) two.more) list) (sym (letters_append self q xs ys state))
-          (zip_append (IsHeardLike members jobs) (filter (is_to q) one.more) (letters_to self q xs state) (filter (is_to q) two.more) (letters_to self q ys (after_events self xs state))
-          (one.letters (whole_left members jobs one.more two.more whole) q below)
-          (subst (λ s. AllZip (IsHeardLike members jobs) (filter (is_to q) two.more) (letters_to self q ys s)) one.replica
-          (two.letters (whole_right members jobs one.more two.more whole) q below))));
+          subst (λ list. AllZip (IsHeardLike members size) list (letters_to self q (xs ++ ys) state)) (sym (filter-append (is_to q) one.more two.more))
+          (subst (λ list. AllZip (IsHeardLike members size) (filter (is_to q) one.more ++ filter (is_to q) two.more) list) (sym (letters_append self q xs ys state))
+          (zip_append (IsHeardLike members size) (filter (is_to q) one.more) (letters_to self q xs state) (filter (is_to q) two.more) (letters_to self q ys (after_events self xs state))
+          (one.letters (whole_left members size one.more two.more whole) q below)
+          (subst (λ s. AllZip (IsHeardLike members size) (filter (is_to q) two.more) (letters_to self q ys s)) one.replica
+          (two.letters (whole_right members size one.more two.more whole) q below))));
     }
 
 -- ---- one turn
@@ -118,11 +119,11 @@ mails_there who Answer made mails other apart = refl
 abbrev after_did : ℕ → Situation → ℕ → Cause → Option CallRow → Row → Situation
 after_did members situation who cause made row = after_turn members situation (record row { turn = Did who cause made })
 
-did_passes : (members : ℕ) (table : Table) (jobs who : ℕ) (cause : Cause) (made : Option CallRow) (situation : Situation) (row : Row) → who < members
+did_passes : (members : ℕ) (table : Table) (size : TableSize) (who : ℕ) (cause : Cause) (made : Option CallRow) (situation : Situation) (row : Row) → who < members
     → MayFollow members table situation.standing (Did who cause made) row
-    → Passes members table jobs who (row.event ∷ []) situation (after_did members situation who cause made row)
+    → Passes members table size who (row.event ∷ []) situation (after_did members situation who cause made row)
 unfolding after_row
-did_passes members table jobs who cause made situation row member may = record {
+did_passes members table size who cause made situation row member may = record {
   replica = with_here who _ situation.standing.replicas;
   others = λ other apart. replica_there who _ situation.standing.replicas other apart;
   waits = λ other apart. fact_there who (answer_to made) situation.standing.waits other apart;
@@ -135,14 +136,14 @@ did_passes members table jobs who cause made situation row member may = record {
   more = post who row.letters;
   posted = refl;
   letters = λ whole q below.
-      subst (λ list. AllZip (IsHeardLike members jobs) (filter (is_to q) (post who row.letters)) list) (sym (append-nil _))
-      (one_to members jobs who q 0 members (λ q. sent_to who q _) row.letters may.1.letters whole (omega arith) (omega (arith, below)));
+      subst (λ list. AllZip (IsHeardLike members size) (filter (is_to q) (post who row.letters)) list) (sym (append-nil _))
+      (one_to members size who q 0 members (λ q. sent_to who q _) row.letters may.1.letters whole (omega arith) (omega (arith, below)));
 }
 
-pub turn_passes : (members : ℕ) (table : Table) (jobs who : ℕ) (cause : Cause) (made : Option CallRow) (situation : Situation) (row : Row)
+pub turn_passes : (members : ℕ) (table : Table) (size : TableSize) (who : ℕ) (cause : Cause) (made : Option CallRow) (situation : Situation) (row : Row)
     → row.turn ≡ Did who cause made → MayFollow members table situation.standing row.turn row
-    → Passes members table jobs who (row.event ∷ []) situation (after_turn members situation row)
-turn_passes members table jobs who cause made situation row is may =
+    → Passes members table size who (row.event ∷ []) situation (after_turn members situation row)
+turn_passes members table size who cause made situation row is may =
     let so = subst (λ turn. MayFollow members table situation.standing turn row) is may in
-    subst (λ turn. Passes members table jobs who (row.event ∷ []) situation (after_turn members situation (record row { turn = turn }))) (sym is)
-    (did_passes members table jobs who cause made situation row so.0.member so)
+    subst (λ turn. Passes members table size who (row.event ∷ []) situation (after_turn members situation (record row { turn = turn }))) (sym is)
+    (did_passes members table size who cause made situation row so.0.member so)

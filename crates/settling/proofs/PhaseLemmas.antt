@@ -1,5 +1,7 @@
 -- Each round of a drain brings the replica that has campaigned nearer to leading alone.
-use Rattle.std.proofs.Common.{◌≡◌, ◌⊎◌, ℕ, zero, suc, ◌<◌, ◌≤◌, List, [], ◌∷◌, length, Option, None, ℤ, refl, sym, ap, ◌∙◌, inl, inr, subst}
+use Rattle.std.proofs.Common.{◌≡◌, ◌⊎◌, ℕ, zero, suc, ◌<◌, ◌≤◌, List, [], ◌∷◌, Option, None, ℤ, refl, sym, ap, ◌∙◌, inl, inr, subst}
+use Rattle.launch_machine.specs.Clerk.{table_size}
+use Rattle.paxos_base.specs.declared.rows.TableSize.{TableSize}
 use Rattle.paxos_base.specs.Members.{only_member}
 use Rattle.paxos_base.specs.declared.entry.Vote.{Vote}
 use Rattle.paxos_base.specs.declared.rows.JobRow.{JobRow}
@@ -45,21 +47,21 @@ cluster_at : (members : ℕ) (table : Table) (at : ℤ) (cluster : Cluster) (aft
 cluster_at members table at cluster after here = round_is_synchronous members table at here.book here.rows here.situation after cluster here.goes here.stands
 
 -- the term of a replica, where its situation stands for this
-term_there : (members jobs who : ℕ) (situation : Situation) (cluster : Cluster) (term : Term) → who < members → StandsForCluster members jobs situation cluster → (cluster.replicas who).term ≡ term → (situation.standing.replicas who).term ≡ term
-term_there members jobs who situation cluster term member there is = ap (λ (s : State). s.term) (sym (there.replicas who member)) ∙ is
+term_there : (members : ℕ) (size : TableSize) (who : ℕ) (situation : Situation) (cluster : Cluster) (term : Term) → who < members → StandsForCluster members size situation cluster → (cluster.replicas who).term ≡ term → (situation.standing.replicas who).term ≡ term
+term_there members size who situation cluster term member there is = ap (λ (s : State). s.term) (sym (there.replicas who member)) ∙ is
 
 -- a round of a drain in which a candidate hears its mail
 candidate_round : (members : ℕ) (table : Table) (who : ℕ) (at : ℤ) (book rows : List Row) (situation after : Situation) (cluster : Cluster) (ballot first heard : ℕ) (best : List Vote) → who < members
-    → GoesDrainRound members table who at book rows situation after → StandsForCluster members (length table.jobs) situation cluster
+    → GoesDrainRound members table who at book rows situation after → StandsForCluster members (table_size table) situation cluster
     → (cluster.replicas who).term ≡ Candidate ballot first heard best → StandsForRound members table at cluster after
 candidate_round members table who at book rows situation after cluster ballot first heard best member goes there is =
     cluster_at members table at cluster after
     (waits_round members table who at book rows situation after cluster goes there
-    (ap (campaign_tasks who) (term_there members (length table.jobs) who situation cluster (Candidate ballot first heard best) member there is)))
+    (ap (campaign_tasks who) (term_there members (table_size table) who situation cluster (Candidate ballot first heard best) member there is)))
 
 -- a round of a drain that begins with a campaign
 follower_round : (members : ℕ) (table : Table) (who : ℕ) (at : ℤ) (book rows : List Row) (situation after : Situation) (cluster : Cluster) → who < members → 2 ≤ members
-    → GoesDrainRound members table who at book rows situation after → StandsForCluster members (length table.jobs) situation cluster
+    → GoesDrainRound members table who at book rows situation after → StandsForCluster members (table_size table) situation cluster
     → IsFollower (cluster.replicas who).term → StandsForRound members table at (after_campaign members who (unanswered who cluster)) after
 follower_round members table who at book rows situation after cluster member more goes there follows =
     cluster_at members table at (after_campaign members who (unanswered who cluster)) after
@@ -247,7 +249,7 @@ leads_on members table who now book rows situation after goes was =
     round =
         cluster_at members table now was.cluster after
         (waits_round members table who now book rows situation after was.cluster goes was.stands
-        (ap (campaign_tasks who) (term_there members (length table.jobs) who situation was.cluster (Leader stands.ballot stands.best stands.flight) stands.member was.stands stands.is)))
+        (ap (campaign_tasks who) (term_there members (table_size table) who situation was.cluster (Leader stands.ballot stands.best stands.flight) stands.member was.stands stands.is)))
 
     next : Cluster
     next = cluster_round members now round.advice round.answers was.cluster
@@ -282,11 +284,11 @@ not_free prefix (Candidate ballot first heard best) follows is = is
 not_free prefix (Leader ballot best flight) follows is = follows
 
 -- the term of a quiet situation is a leader's
-free_there : (members : ℕ) (table : Table) (who : ℕ) (at : ℤ) (situation : Situation) (cluster : Cluster) → who < members → StandsForCluster members (length table.jobs) situation cluster → IsQuiet members table who at situation
+free_there : (members : ℕ) (table : Table) (who : ℕ) (at : ℤ) (situation : Situation) (cluster : Cluster) → who < members → StandsForCluster members (table_size table) situation cluster → IsQuiet members table who at situation
     → IsFreeTerm (prefix_of (cluster.replicas who)) (cluster.replicas who).term
 free_there members table who at situation cluster member there quiet = subst (λ (s : State). IsFreeTerm (prefix_of s) s.term) (sym (there.replicas who member)) quiet.free
 
-candidate_is_not_quiet : (members : ℕ) (table : Table) (who : ℕ) (at : ℤ) (situation : Situation) (cluster : Cluster) (ballot first heard : ℕ) (best : List Vote) → who < members → StandsForCluster members (length table.jobs) situation cluster
+candidate_is_not_quiet : (members : ℕ) (table : Table) (who : ℕ) (at : ℤ) (situation : Situation) (cluster : Cluster) (ballot first heard : ℕ) (best : List Vote) → who < members → StandsForCluster members (table_size table) situation cluster
     → (cluster.replicas who).term ≡ Candidate ballot first heard best → IsQuiet members table who at situation → ⊥
 candidate_is_not_quiet members table who at situation cluster ballot first heard best member there is quiet =
     subst (λ term. IsFreeTerm (prefix_of (cluster.replicas who)) term) is (free_there members table who at situation cluster member there quiet)

@@ -10,7 +10,7 @@ use Rattle.paxos_base.specs.declared.entry.Vote.{Vote}
 use Rattle.paxos_base.specs.declared.rows.JobRow.{JobRow}
 use Rattle.due_set.specs.Table.{Table}
 use Rattle.launch_machine.specs.Answers.{IsIntent}
-use Rattle.launch_machine.specs.Clerk.{IsClerkOf, first_rows}
+use Rattle.launch_machine.specs.Clerk.{IsClerkOf, first_rows, table_size}
 use Rattle.launch_machine.specs.Intent.{NoCall, NoStart}
 use Rattle.launch_machine.specs.declared.machine.Intent.TheVariants.{Rest}
 use Rattle.launch_machine.proofs.ClerkLemmas.{AppliesAll-same}
@@ -132,7 +132,7 @@ learned_whole members table book who now situation log ends = record { long = lo
         let to = reaches members table book ends.legal in
         transitions_followed members table (first_rows table) (first_world (first_rows table)) to.turns ends.few (first_followed members table (first_rows table)) to.are
 
-    matches : Matches members (length table.jobs) (standing_after members (first_rows table) book) (votes_in book) (learned_in book) w
+    matches : Matches members (table_size table) (standing_after members (first_rows table) book) (votes_in book) (learned_in book) w
     matches = (reaches members table book ends.legal).matches
 
     same : (m : ℕ) → situation.standing.replicas m ≡ w.replicas m

@@ -1,11 +1,11 @@
 -- Rounds of a legal book, one after another, are synchronous rounds.
-use Rattle.std.proofs.Common.{◌≡◌, ℕ, zero, suc, List, [], ◌∷◌, ◌++◌, append_assoc, append-nil, length, ℤ, sym, ap, ◌∙◌, arith, subst}
+use Rattle.std.proofs.Common.{◌≡◌, ℕ, zero, suc, List, [], ◌∷◌, ◌++◌, append_assoc, append-nil, ℤ, sym, ap, ◌∙◌, arith, subst}
 use Rattle.std.specs.List.{Contains}
 use Rattle.std.proofs.lemmas.List.{length-append}
 use Rattle.std.proofs.lemmas.List.Elements.{Contains-append_left}
 use Rattle.std.proofs.lemmas.List.Sums.{fold-append}
 use Rattle.due_set.specs.Table.{Table}
-use Rattle.launch_machine.specs.Clerk.{first_rows}
+use Rattle.launch_machine.specs.Clerk.{first_rows, table_size}
 use Rattle.history.specs.Book.{PostedLetter, Row, Standing, after_row, first_standing, post, standing_after}
 use Rattle.history.specs.Legal.{IsLegal}
 use Rattle.history.specs.declared.turn.Turn.{Turn}
@@ -95,9 +95,9 @@ first_round members table at more book rows situation after goes none parts =
     }
 
 pub rounds_are_synchronous : (members : ℕ) (table : Table) (at : ℤ) (rounds : ℕ) (book rows : List Row) (situation after : Situation) (cluster : Cluster) → GoesRounds members table at rounds book rows situation after
-    → AreUnarmed situation → StandsForCluster members (length table.jobs) situation cluster → StandsForRounds members table at rounds cluster after
+    → AreUnarmed situation → StandsForCluster members (table_size table) situation cluster → StandsForRounds members table at rounds cluster after
 rounds_are_synchronous members table at zero book rows situation after cluster goes none there =
-    subst (λ (s : Situation). StandsForCluster members (length table.jobs) s cluster) (sym goes.round.is) there
+    subst (λ (s : Situation). StandsForCluster members (table_size table) s cluster) (sym goes.round.is) there
 rounds_are_synchronous members table at (suc more) book rows situation after cluster goes none there =
     let parts = goes.round in
     let whole : book ++ rows ≡ (book ++ parts.front) ++ parts.back = ap (λ list. book ++ list) parts.parts ∙ sym (append_assoc book parts.front parts.back) in

@@ -1,8 +1,8 @@
 -- One replica comes to lead: by itself, or alone among others.
-use Rattle.std.proofs.Common.{◌≡◌, ◌⊎◌, ℕ, zero, suc, ◌<◌, ◌≤◌, List, [], length, ℤ, sym, ap, inl, inr, arith, subst}
+use Rattle.std.proofs.Common.{◌≡◌, ◌⊎◌, ℕ, zero, suc, ◌<◌, ◌≤◌, List, [], ℤ, sym, ap, inl, inr, arith, subst}
 use Rattle.std.proofs.lemmas.Bool.{cases_lt}
 use Rattle.due_set.specs.Table.{Table}
-use Rattle.launch_machine.specs.Clerk.{first_rows}
+use Rattle.launch_machine.specs.Clerk.{first_rows, table_size}
 use Rattle.paxos_base.specs.declared.entry.Entry.{Entry}
 use Rattle.paxos_base.specs.declared.rows.JobRow.{JobRow}
 use Rattle.step_spec.specs.Step.{IsLaunchTable}
@@ -130,7 +130,7 @@ campaign_faultless members table at book rows situation after some goes = elim (
 record IsOnTheWay (members : ℕ) (table : Table) (situation : Situation) : Type 0 where
   more : 2 ≤ members
   cluster : Cluster
-  stands : StandsForCluster members (length table.jobs) situation cluster
+  stands : StandsForCluster members (table_size table) situation cluster
 
 way_of : (rounds members : ℕ) (table : Table) (who : ℕ) (situation : Situation) → IsOnItsWay rounds members table who situation → IsOnTheWay members table situation
 way_of zero members table who situation way = absurd way

@@ -4,6 +4,7 @@ use Rattle.paxos_base.specs.Durable.{after_delta}
 use Rattle.paxos_base.specs.Members.{with_member}
 use Rattle.paxos_base.specs.Vote.{votes_from}
 use Rattle.due_set.specs.Table.{IsSound, Table}
+use Rattle.launch_machine.specs.Clerk.{first_rows}
 use Rattle.launch_machine.specs.declared.machine.Intent.TheVariants as intent
 use Rattle.step_spec.specs.Act.{after_act}
 use Rattle.step_spec.specs.Folds.{calls_by, deltas_by, learnt_by, sent_by}
@@ -22,7 +23,7 @@ use Rattle.settling.specs.Campaigns.{GoesCampaign}
 use Rattle.settling.specs.Idle.{IsIdleAt}
 use Rattle.settling.specs.Alone.{LeadsItself}
 use Rattle.settling.proofs.AloneBookLemmas.{campaign_is_won, campaign_leaves_no_fault}
-use Rattle.step_spec.proofs.ListLemmas.{nothing_found}
+use Rattle.history.proofs.TableRows.{rests_without_jobs}
 
 abbrev quiet_table : Table
 quiet_table = record { window = record { from = record { 0 = pos 525_600 }; until = record { 0 = pos 525_601 } }; grace = 0; zones = []; jobs = [] }
@@ -43,7 +44,7 @@ stands_for = record { turn = Did 0 cause.Campaign None; event = Campaign; letter
 abbrev ticks : Row
 ticks = record {
   turn = Did 0 (cause.Tick (record { 0 = pos 525_600 })) None;
-  event = Tick (pos 525_600) (record { rows = []; intent = intent.Rest });
+  event = Tick (pos 525_600) (record { rows = first_rows quiet_table; intent = intent.Rest });
   letters = [];
   votes = [];
   learnt = [];
@@ -58,21 +59,21 @@ elected = delivered 0 (after_turns 1 start (stands_for ∷ []))
 abbrev untouched : Situation
 untouched = delivered 0 (after_turns 1 elected [])
 
-may_stand : MayFollow 1 quiet_table (first_standing 1 []) stands_for.turn stands_for
+may_stand : MayFollow 1 quiet_table (first_standing 1 (first_rows quiet_table)) stands_for.turn stands_for
 unfolding step campaign after_row after_act after_delta deltas_by learnt_by calls_by sent_by with_member
 may_stand = (
   record { member = lit< tt; runs = refl; event_of = refl; planned = tt },
   record { letters = tt; votes = refl; learnt = refl; call = refl },
 )
 
-may_tick : MayFollow 1 quiet_table (standing_after 1 [] (stands_for ∷ [])) ticks.turn ticks
+may_tick : MayFollow 1 quiet_table (standing_after 1 (first_rows quiet_table) (stands_for ∷ [])) ticks.turn ticks
 unfolding step campaign tick after_row after_act after_delta deltas_by learnt_by calls_by sent_by with_member votes_from
 may_tick = (
   record {
     member = lit< tt;
     runs = refl;
-    event_of = (record { since = grind arith; before = grind arith }, record { rows = []; intent = intent.Rest }, refl);
-    planned = (refl, ((λ job at may. nothing_found job may.is_row), (λ job at takes. nothing_found job takes.is_row)));
+    event_of = (record { since = grind arith; before = grind arith }, record { rows = first_rows quiet_table; intent = intent.Rest }, refl);
+    planned = (refl, rests_without_jobs quiet_table (first_rows quiet_table) (pos 525_600) refl);
   },
   record { letters = tt; votes = refl; learnt = refl; call = refl },
 )
@@ -132,7 +133,7 @@ unfolding step campaign after_row after_act after_delta with_member votes_from
 at_rest = record {
   free = refl;
   answered = refl;
-  rests = record { rows = []; rows_are = refl; rests = ((λ job at may. nothing_found job may.is_row), (λ job at takes. nothing_found job takes.is_row)) };
+  rests = record { rows = first_rows quiet_table; rows_are = refl; rests = rests_without_jobs quiet_table (first_rows quiet_table) (pos 525_600) refl };
 }
 
 pub some_drain_round : (table : Table) × (at : ℤ) × (book : List Row) × (rows : List Row) × (situation : Situation) × (after : Situation)

@@ -23,7 +23,7 @@ use Rattle.history.specs.Legal.{IsLegal, MayFollow}
 use Rattle.history.specs.declared.turn.CallRow.{CallRow}
 use Rattle.history.specs.declared.turn.Cause.TheVariants as cause
 use Rattle.history.specs.declared.turn.Turn.TheVariants.{Did}
-use Rattle.history.proofs.Asks.{busy, call_asked, end_applies, end_entry, idle, in_window, minute, opened, sound, start_applies, start_asked, start_entry}
+use Rattle.history.proofs.Asks.{busy, call_asked, end_applies, end_entry, idle, in_window, minute, opened, sound, start_applies, start_asked, start_entry, with_table}
 use Rattle.history.proofs.Turns.{legal_append}
 use Rattle.history.proofs.Keeping.{empty_is_legal}
 use Rattle.script_semantics.specs.Situation.{Situation, after_turns, delivered, first_situation}
@@ -52,7 +52,7 @@ stands_for = record { turn = Did 0 cause.Campaign None; event = Campaign; letter
 abbrev starts : Row
 starts = record {
   turn = Did 0 (cause.Tick (record { 0 = minute 0 })) None;
-  event = Tick (minute 0) (record { rows = idle 0 ∷ []; intent = intent.Start 0 (minute 0) });
+  event = Tick (minute 0) (record { rows = with_table (idle 0); intent = intent.Start 0 (minute 0) });
   letters = [];
   votes = vote 0 (start_entry 0) ∷ [];
   learnt = learnt 0 (start_entry 0) ∷ [];
@@ -61,7 +61,7 @@ starts = record {
 abbrev calls : Row
 calls = record {
   turn = Did 0 (cause.Tick (record { 0 = minute 0 })) (Some answered_call);
-  event = Tick (minute 0) (record { rows = opened 0 ∷ []; intent = intent.Call 0 (minute 0) Launch });
+  event = Tick (minute 0) (record { rows = with_table (opened 0); intent = intent.Call 0 (minute 0) Launch });
   letters = [];
   votes = [];
   learnt = [];
@@ -70,7 +70,7 @@ calls = record {
 abbrev ends : Row
 ends = record {
   turn = Did 0 cause.Answer None;
-  event = Answer 0 (minute 0) Launch (opened 0 ∷ []);
+  event = Answer 0 (minute 0) Launch (with_table (opened 0));
   letters = [];
   votes = vote 1 (end_entry 0) ∷ [];
   learnt = learnt 1 (end_entry 0) ∷ [];
@@ -79,14 +79,14 @@ ends = record {
 abbrev starts_next : Row
 starts_next = record {
   turn = Did 0 (cause.Tick (record { 0 = minute 1 })) None;
-  event = Tick (minute 1) (record { rows = idle 1 ∷ []; intent = intent.Start 0 (minute 1) });
+  event = Tick (minute 1) (record { rows = with_table (idle 1); intent = intent.Start 0 (minute 1) });
   letters = [];
   votes = vote 2 (start_entry 1) ∷ [];
   learnt = learnt 2 (start_entry 1) ∷ [];
 }
 
 abbrev rows : List JobRow
-rows = idle 0 ∷ []
+rows = with_table (idle 0)
 
 may_stand : MayFollow 1 busy (first_standing 1 rows) stands_for.turn stands_for
 unfolding step campaign after_row after_act after_delta deltas_by learnt_by calls_by sent_by with_member
@@ -101,7 +101,7 @@ may_start = (
   record {
     member = lit< tt;
     runs = refl;
-    event_of = (in_window 0 (lit< tt), record { rows = idle 0 ∷ []; intent = intent.Start 0 (minute 0) }, refl);
+    event_of = (in_window 0 (lit< tt), record { rows = with_table (idle 0); intent = intent.Start 0 (minute 0) }, refl);
     planned = (refl, start_asked 0 (lit< tt));
   },
   record { letters = tt; votes = refl; learnt = refl; call = refl },
@@ -113,8 +113,8 @@ may_call = (
   record {
     member = lit< tt;
     runs = refl;
-    event_of = (in_window 0 (lit< tt), record { rows = opened 0 ∷ []; intent = intent.Call 0 (minute 0) Launch }, refl);
-    planned = ((opened 0 ∷ [], start_applies 0 (lit< tt), refl), call_asked 0);
+    event_of = (in_window 0 (lit< tt), record { rows = with_table (opened 0); intent = intent.Call 0 (minute 0) Launch }, refl);
+    planned = ((with_table (opened 0), start_applies 0 (lit< tt), refl), call_asked 0);
   },
   record { letters = tt; votes = refl; learnt = refl; call = (refl, refl, refl) },
 )
@@ -125,8 +125,8 @@ may_end = (
   record {
     member = lit< tt;
     runs = refl;
-    event_of = record { row = the_call; waits = refl; plan = record { rows = opened 0 ∷ []; intent = intent.Rest }; is = refl };
-    planned = (opened 0 ∷ [], start_applies 0 (lit< tt), refl);
+    event_of = record { row = the_call; waits = refl; plan = record { rows = with_table (opened 0); intent = intent.Rest }; is = refl };
+    planned = (with_table (opened 0), start_applies 0 (lit< tt), refl);
   },
   record { letters = tt; votes = refl; learnt = refl; call = refl },
 )
@@ -137,8 +137,8 @@ may_start_next = (
   record {
     member = lit< tt;
     runs = refl;
-    event_of = (in_window 1 (lit< tt), record { rows = idle 1 ∷ []; intent = intent.Start 0 (minute 1) }, refl);
-    planned = ((opened 0 ∷ [], start_applies 0 (lit< tt), (idle 1 ∷ [], end_applies 0, refl)), start_asked 1 (lit< tt));
+    event_of = (in_window 1 (lit< tt), record { rows = with_table (idle 1); intent = intent.Start 0 (minute 1) }, refl);
+    planned = ((with_table (opened 0), start_applies 0 (lit< tt), (with_table (idle 1), end_applies 0, refl)), start_asked 1 (lit< tt));
   },
   record { letters = tt; votes = refl; learnt = refl; call = refl },
 )

@@ -8,7 +8,7 @@ use Rattle.paxos_letter.specs.declared.packet.Packet.{Packet}
 use Rattle.paxos_letter.specs.declared.packet.Packet.TheVariants as packet
 use Rattle.paxos_letter.proofs.LetterLemmas.{letters_have_packets}
 use Rattle.due_set.specs.Table.{IsSound, Table}
-use Rattle.launch_machine.specs.Clerk.{first_rows}
+use Rattle.launch_machine.specs.Clerk.{first_rows, table_size}
 use Rattle.launch_machine.specs.Answers.{IsIntent}
 use Rattle.launch_machine.specs.declared.machine.Intent.TheVariants as intent
 use Rattle.step_spec.specs.Letters.{heard_in}
@@ -25,7 +25,7 @@ use Rattle.zone_minutes.specs.Window.{IsInWindow}
 use Rattle.script_semantics.specs.Situation.{Situation, first_situation}
 use Rattle.settling.specs.Rounds.{IsFaultless}
 use Rattle.due_set.proofs.Rising.{Contains-cases as cons_cases}
-use Rattle.step_spec.proofs.ListLemmas.{nothing_found}
+use Rattle.history.proofs.TableRows.{rests_without_jobs}
 
 -- ---- the table
 
@@ -46,8 +46,8 @@ pub in_window : IsInWindow no_job.window (pos 525_600)
 in_window = record { since = grind arith; before = grind arith }
 
 -- its launch table asks for nothing
-pub asks_nothing : IsIntent no_job [] (pos 525_600) intent.Rest
-asks_nothing = ((λ job at may. nothing_found job may.is_row), (λ job at takes. nothing_found job takes.is_row))
+pub asks_nothing : IsIntent no_job (first_rows no_job) (pos 525_600) intent.Rest
+asks_nothing = rests_without_jobs no_job (first_rows no_job) (pos 525_600) refl
 
 -- ---- the turns
 
@@ -61,7 +61,7 @@ abbrev pub hears : ℕ → (number from : ℕ) → Message → List OutLetter �
 hears who number from message letters = did who (cause.Hear number) (Hear from (message ∷ [])) letters
 
 abbrev pub ticks : ℕ → List OutLetter → Row
-ticks who letters = did who (cause.Tick (record { 0 = pos 525_600 })) (Tick (pos 525_600) (record { rows = []; intent = intent.Rest })) letters
+ticks who letters = did who (cause.Tick (record { 0 = pos 525_600 })) (Tick (pos 525_600) (record { rows = first_rows no_job; intent = intent.Rest })) letters
 
 -- the row may follow the turns so far
 abbrev pub May : List Row → Row → Type 0
@@ -70,18 +70,18 @@ May book row = MayFollow 2 no_job (standing_after 2 (first_rows no_job) book) ro
 pub takes_campaign : (standing : Standing) (who : ℕ) → who < 2 → standing.runs who ≡ true → TakesTurn 2 no_job standing who cause.Campaign Campaign
 takes_campaign standing who member runs = record { member = member; runs = runs; event_of = refl; planned = tt }
 
-pub takes_tick : (standing : Standing) (who : ℕ) → who < 2 → standing.runs who ≡ true → IsLaunchTable no_job (standing.replicas who) []
-    → TakesTurn 2 no_job standing who (cause.Tick (record { 0 = pos 525_600 })) (Tick (pos 525_600) (record { rows = []; intent = intent.Rest }))
+pub takes_tick : (standing : Standing) (who : ℕ) → who < 2 → standing.runs who ≡ true → IsLaunchTable no_job (standing.replicas who) (first_rows no_job)
+    → TakesTurn 2 no_job standing who (cause.Tick (record { 0 = pos 525_600 })) (Tick (pos 525_600) (record { rows = first_rows no_job; intent = intent.Rest }))
 takes_tick standing who member runs launch = record {
   member = member;
   runs = runs;
-  event_of = (in_window, record { rows = []; intent = intent.Rest }, refl);
+  event_of = (in_window, record { rows = first_rows no_job; intent = intent.Rest }, refl);
   planned = (launch, asks_nothing);
 }
 
 pub hears_letter : (standing : Standing) (who number from : ℕ) (packet : Packet) (message : Message) → who < 2 → standing.runs who ≡ true
     → slice_get standing.posted number ≡ Some (record { from = from; to = who; bytes = spelling from (packet ∷ []) }) → Spells 2 from (packet ∷ []) (spelling from (packet ∷ []))
-    → message ∷ [] ≡ heard_in 0 (packet ∷ []) → TakesTurn 2 no_job standing who (cause.Hear number) (Hear from (message ∷ []))
+    → message ∷ [] ≡ heard_in (table_size no_job) (packet ∷ []) → TakesTurn 2 no_job standing who (cause.Hear number) (Hear from (message ∷ []))
 hears_letter standing who number from packet message member runs there spells heard = record {
   member = member;
   runs = runs;

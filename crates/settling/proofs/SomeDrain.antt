@@ -5,6 +5,7 @@ use Rattle.paxos_base.specs.Members.{with_member}
 use Rattle.paxos_base.specs.Vote.{votes_from}
 use Rattle.paxos_letter.specs.declared.packet.Packet.TheVariants as packet
 use Rattle.due_set.specs.Table.{Table}
+use Rattle.launch_machine.specs.Clerk.{first_rows}
 use Rattle.step_spec.specs.Act.{after_act}
 use Rattle.step_spec.specs.Folds.{calls_by, deltas_by, learnt_by, sent_by}
 use Rattle.step_spec.specs.Hear.{hear, hear_all, line, on_lead, on_prepare, on_promise}
@@ -243,7 +244,7 @@ leads_by (inr was) = absurd (not_yielding was)
 
 quiet_now : IsQuiet 2 no_job 0 (pos 525_600) led
 unfolding step campaign tick hear hear_all line on_lead on_prepare on_promise after_row after_act after_delta deltas_by learnt_by calls_by sent_by with_member votes_from packets_of messages_of
-quiet_now = record { free = refl; answered = refl; rests = record { rows = []; rows_are = refl; rests = asks_nothing }; caught_up = caught_up }
+quiet_now = record { free = refl; answered = refl; rests = record { rows = first_rows no_job; rows_are = refl; rests = asks_nothing }; caught_up = caught_up }
   where
     caught_up : (other : ℕ) → other < 2 → prefix_of (led.standing.replicas other) ≡ prefix_of (led.standing.replicas 0)
     caught_up zero below = refl

@@ -1,6 +1,7 @@
 -- Two replicas over a table without jobs, of which one leads and is idle: the turns of a round, and that each may follow.
 use Rattle.std.proofs.Common.{◌≡◌, ℕ, true, pos, Some, None, List, [], ◌∷◌, ℤ, refl, sym, ap, ◌∙◌, arith, subst, lit<}
 use Rattle.std.specs.List.{slice_get}
+use Rattle.launch_machine.specs.Clerk.{first_rows, table_size}
 use Rattle.paxos_letter.specs.Letters.{Spells}
 use Rattle.paxos_letter.specs.Spelling.{spelling}
 use Rattle.paxos_letter.specs.declared.packet.Packet.TheVariants as packet
@@ -25,7 +26,7 @@ use Rattle.history.specs.Book.{PostedLetter, Row, Standing, acts_at, votes_of}
 use Rattle.history.specs.Legal.{BringsStep, IsMade, MayFollow}
 use Rattle.history.specs.declared.turn.Cause.TheVariants as cause
 use Rattle.history.specs.declared.turn.Turn.TheVariants.{Did}
-use Rattle.step_spec.proofs.ListLemmas.{nothing_found}
+use Rattle.history.proofs.TableRows.{rests_without_jobs}
 
 -- ---- the table
 
@@ -45,13 +46,13 @@ bare_sound = record {
 abbrev pub now : ℤ
 now = pos 525_600
 
-pub bare_rests : IsIntent bare [] now Rest
-bare_rests = ((λ job at may. nothing_found job may.is_row), (λ job at takes. nothing_found job takes.is_row))
+pub bare_rests : IsIntent bare (first_rows bare) now Rest
+bare_rests = rests_without_jobs bare (first_rows bare) now refl
 
 -- ---- the replicas
 
 abbrev kept_with : ℕ → Durable
-kept_with tried = record { tried = tried; promised = Some 8; votes = []; base = 0; rows = [] }
+kept_with tried = record { tried = tried; promised = Some 8; votes = []; base = 0; rows = first_rows bare }
 
 abbrev pub leader : State
 leader = record { kept = kept_with 1; learned = []; term = Leader 8 [] None; seen = 8 }
@@ -62,7 +63,7 @@ follower = record { kept = kept_with 0; learned = []; term = Follower None; seen
 -- ---- the turns of a round
 
 abbrev tick_event : Event
-tick_event = Tick now (record { rows = []; intent = Rest })
+tick_event = Tick now (record { rows = first_rows bare; intent = Rest })
 
 abbrev lead_event : Event
 lead_event = Hear 0 (Lead 8 0 ∷ [])
@@ -92,7 +93,7 @@ lead_spells = record {
   spelled = refl;
 }
 
-pub lead_heard : IsHeardAs 2 0 lead_bytes 0 (Lead 8 0 ∷ [])
+pub lead_heard : IsHeardAs 2 (table_size bare) lead_bytes 0 (Lead 8 0 ∷ [])
 unfolding messages_of
 lead_heard = record { packets = packet.Lead 8 0 ∷ []; spells = lead_spells; heard = refl }
 
@@ -146,7 +147,7 @@ may_lead s runs is = (
   record {
     member = lit< tt;
     runs = runs;
-    event_of = (record { since = grind arith; before = grind arith }, record { rows = []; intent = Rest }, refl);
+    event_of = (record { since = grind arith; before = grind arith }, record { rows = first_rows bare; intent = Rest }, refl);
     planned = subst (λ (state : State). IsPlanned bare state tick_event) (sym is) (refl, bare_rests);
   },
   brings s 0 leads (Send Others (Lead 8 0) ∷ []) (record { letters = (record { to = refl; spells = lead_spells }, tt); votes = refl; learnt = refl; call = refl })
@@ -172,7 +173,7 @@ may_tick s runs is = (
   record {
     member = lit< tt;
     runs = runs;
-    event_of = (record { since = grind arith; before = grind arith }, record { rows = []; intent = Rest }, refl);
+    event_of = (record { since = grind arith; before = grind arith }, record { rows = first_rows bare; intent = Rest }, refl);
     planned = subst (λ (state : State). IsPlanned bare state tick_event) (sym is) (refl, bare_rests);
   },
   brings s 1 ticks [] (record { letters = tt; votes = refl; learnt = refl; call = refl })

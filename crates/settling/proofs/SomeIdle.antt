@@ -8,7 +8,7 @@ use Rattle.paxos_base.specs.Members.{with_member}
 use Rattle.paxos_base.specs.Vote.{votes_from}
 use Rattle.cluster_sched.specs.declared.fate.Fate.TheVariants as fate
 use Rattle.due_set.specs.Table.{Table}
-use Rattle.launch_machine.specs.Clerk.{first_rows}
+use Rattle.launch_machine.specs.Clerk.{first_rows, table_size}
 use Rattle.step_spec.specs.Act.{after_act}
 use Rattle.step_spec.specs.Hear.{hear, hear_all, line, on_prepare, on_promise}
 use Rattle.step_spec.specs.Message.{Lead}
@@ -225,16 +225,16 @@ one_cluster situation = record {
 }
 
 far : Progress
-far = record { ballot = 8; table = bare; rows = []; prefix = 0; base = 0 }
+far = record { ballot = 8; table = bare; rows = first_rows bare; prefix = 0; base = 0 }
 
-stands_for : (rounds : ℕ) (book : List Row) (situation : Situation) → Resting rounds book situation → StandsForCluster 2 0 situation (one_cluster situation)
+stands_for : (rounds : ℕ) (book : List Row) (situation : Situation) → Resting rounds book situation → StandsForCluster 2 (table_size bare) situation (one_cluster situation)
 unfolding one_cluster
 stands_for rounds book situation rests = record { replicas = λ who below. refl; waits = λ who below. refl; mails = mails }
   where
-    mails : (who : ℕ) → who < 2 → AllZip (IsLetterAt 2 0 situation.standing.posted who) (situation.mails who) ((one_cluster situation).mails who)
-    mails zero below = subst (λ list. AllZip (IsLetterAt 2 0 situation.standing.posted 0) list []) (sym rests.none) tt
+    mails : (who : ℕ) → who < 2 → AllZip (IsLetterAt 2 (table_size bare) situation.standing.posted who) (situation.mails who) ((one_cluster situation).mails who)
+    mails zero below = subst (λ list. AllZip (IsLetterAt 2 (table_size bare) situation.standing.posted 0) list []) (sym rests.none) tt
     mails (suc zero) below =
-        subst (λ list. AllZip (IsLetterAt 2 0 situation.standing.posted 1) list (record { from = 0; messages = Lead 8 0 ∷ [] } ∷ [])) (sym rests.mail)
+        subst (λ list. AllZip (IsLetterAt 2 (table_size bare) situation.standing.posted 1) list (record { from = 0; messages = Lead 8 0 ∷ [] } ∷ [])) (sym rests.mail)
         (record { sent = lead_letter; there = rests.there; to = refl; heard = record { from = refl; heard = lead_heard } }, tt)
     mails (suc (suc more)) below = absurd (omega (arith, below))
 
@@ -276,7 +276,7 @@ unfolding votes_from
 is_at_rest rounds book situation rests = record {
   free = subst (λ (state : State). IsFreeTerm (prefix_of state) state.term) (sym rests.leads_on) refl;
   answered = rests.waits 0 (lit< tt);
-  rests = subst (λ state. AsksNothing bare now state) (sym rests.leads_on) (record { rows = []; rows_are = refl; rests = bare_rests });
+  rests = subst (λ state. AsksNothing bare now state) (sym rests.leads_on) (record { rows = first_rows bare; rows_are = refl; rests = bare_rests });
 }
 
 -- ---- the book

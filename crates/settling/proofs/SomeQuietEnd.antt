@@ -19,7 +19,7 @@ use Rattle.history.proofs.SomeBook.{some_book, some_book_is_legal}
 use Rattle.script_semantics.specs.Settling.{IsQuiet}
 use Rattle.script_semantics.specs.Situation.{Situation}
 use Rattle.settling.specs.Quiet.{EndsQuietly, HasPromisedMost}
-use Rattle.step_spec.proofs.ListLemmas.{nothing_found}
+use Rattle.history.proofs.TableRows.{rests_without_jobs}
 
 abbrev elected : List Row
 elected = take 4 some_book
@@ -54,7 +54,7 @@ unfolding step campaign tick hear hear_all line on_prepare on_promise after_row 
 quiet = record {
   free = refl;
   answered = refl;
-  rests = record { rows = []; rows_are = refl; rests = ((λ job at may. nothing_found job may.is_row), (λ job at takes. nothing_found job takes.is_row)) };
+  rests = record { rows = first_rows no_jobs; rows_are = refl; rests = rests_without_jobs no_jobs (first_rows no_jobs) (pos 0) refl };
   caught_up = caught_up;
 }
 

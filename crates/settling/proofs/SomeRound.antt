@@ -1,5 +1,6 @@
 -- A legal book that begins with a round: two replicas over a table without jobs tick, and nothing else happens.
-use Rattle.std.proofs.Common.{◌≡◌, ℕ, ◌<◌, zero, suc, pos, true, length, None, List, [], ◌∷◌, ℤ, refl, arith, lit<}
+use Rattle.std.proofs.Common.{◌≡◌, ℕ, ◌<◌, zero, suc, pos, true, None, List, [], ◌∷◌, ℤ, refl, arith, lit<}
+use Rattle.launch_machine.specs.Clerk.{first_rows, table_size}
 use Rattle.due_set.specs.Table.{IsSound, Table}
 use Rattle.launch_machine.specs.declared.machine.Intent.TheVariants as intent
 use Rattle.step_spec.specs.Act.{after_act}
@@ -17,7 +18,7 @@ use Rattle.synchronous_rounds.specs.Cluster.{Cluster}
 use Rattle.script_semantics.specs.Situation.{Situation, after_turns, delivered, first_situation}
 use Rattle.settling.specs.Rounds.{GoesRound}
 use Rattle.settling.specs.Stands.{StandsForCluster}
-use Rattle.step_spec.proofs.ListLemmas.{nothing_found}
+use Rattle.history.proofs.TableRows.{rests_without_jobs}
 
 abbrev quiet_table : Table
 quiet_table = record { window = record { from = record { 0 = pos 525_600 }; until = record { 0 = pos 525_601 } }; grace = 0; zones = []; jobs = [] }
@@ -35,7 +36,7 @@ quiet_is_sound = record {
 abbrev tick_of : ℕ → Row
 tick_of who = record {
   turn = Did who (cause.Tick (record { 0 = pos 525_600 })) None;
-  event = Tick (pos 525_600) (record { rows = []; intent = intent.Rest });
+  event = Tick (pos 525_600) (record { rows = first_rows quiet_table; intent = intent.Rest });
   letters = [];
   votes = [];
   learnt = [];
@@ -47,26 +48,26 @@ two_ticks = tick_of 0 ∷ tick_of 1 ∷ []
 abbrev start : Situation
 start = first_situation 2 quiet_table
 
-may_tick : MayFollow 2 quiet_table (first_standing 2 []) (tick_of 0).turn (tick_of 0)
+may_tick : MayFollow 2 quiet_table (first_standing 2 (first_rows quiet_table)) (tick_of 0).turn (tick_of 0)
 unfolding step tick after_row after_act deltas_by learnt_by calls_by sent_by
 may_tick = (
   record {
     member = lit< tt;
     runs = refl;
-    event_of = (record { since = grind arith; before = grind arith }, record { rows = []; intent = intent.Rest }, refl);
-    planned = (refl, ((λ job at may. nothing_found job may.is_row), (λ job at takes. nothing_found job takes.is_row)));
+    event_of = (record { since = grind arith; before = grind arith }, record { rows = first_rows quiet_table; intent = intent.Rest }, refl);
+    planned = (refl, rests_without_jobs quiet_table (first_rows quiet_table) (pos 525_600) refl);
   },
   record { letters = tt; votes = refl; learnt = refl; call = refl },
 )
 
-may_tick_too : MayFollow 2 quiet_table (standing_after 2 [] (tick_of 0 ∷ [])) (tick_of 1).turn (tick_of 1)
+may_tick_too : MayFollow 2 quiet_table (standing_after 2 (first_rows quiet_table) (tick_of 0 ∷ [])) (tick_of 1).turn (tick_of 1)
 unfolding step tick after_row after_act deltas_by learnt_by calls_by sent_by
 may_tick_too = (
   record {
     member = lit< tt;
     runs = refl;
-    event_of = (record { since = grind arith; before = grind arith }, record { rows = []; intent = intent.Rest }, refl);
-    planned = (refl, ((λ job at may. nothing_found job may.is_row), (λ job at takes. nothing_found job takes.is_row)));
+    event_of = (record { since = grind arith; before = grind arith }, record { rows = first_rows quiet_table; intent = intent.Rest }, refl);
+    planned = (refl, rests_without_jobs quiet_table (first_rows quiet_table) (pos 525_600) refl);
   },
   record { letters = tt; votes = refl; learnt = refl; call = refl },
 )
@@ -96,7 +97,7 @@ goes = record {
 }
 
 pub some_round : (members : ℕ) × (table : Table) × (at : ℤ) × (book : List Row) × (rows : List Row) × (situation : Situation) × (after : Situation) × (cluster : Cluster)
-    × GoesRound members table at book rows situation after × StandsForCluster members (length table.jobs) situation cluster
+    × GoesRound members table at book rows situation after × StandsForCluster members (table_size table) situation cluster
 some_round = (
   2,
   quiet_table,

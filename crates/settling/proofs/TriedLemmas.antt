@@ -1,5 +1,5 @@
 -- In a legal book no replica has promised a ballot, and no letter names one, that its own replica has not tried.
-use Rattle.std.proofs.Common.{◌≡◌, ℕ, ◌<◌, ◌≤◌, Option, Some, None, List, [], ◌∷◌, ◌++◌, refl, sym, inl, inr, arith, subst, length}
+use Rattle.std.proofs.Common.{◌≡◌, ℕ, ◌<◌, ◌≤◌, Option, Some, None, List, [], ◌∷◌, ◌++◌, refl, sym, inl, inr, arith, subst}
 use Rattle.std.specs.List.{AllByRecursion, Contains, filter}
 use Rattle.std.proofs.Math.Nat.{le-max_left}
 use Rattle.paxos_base.specs.Ballot.{member_of, round_of}
@@ -7,7 +7,7 @@ use Rattle.paxos_base.specs.Durable.{after_delta}
 use Rattle.paxos_base.specs.declared.entry.Kind.{Kind}
 use Rattle.paxos_base.specs.declared.rows.JobRow.{JobRow}
 use Rattle.due_set.specs.Table.{Table}
-use Rattle.launch_machine.specs.Clerk.{first_rows}
+use Rattle.launch_machine.specs.Clerk.{first_rows, table_size}
 use Rattle.step_spec.specs.Act.{Act, Observe, Stand, Gather, TakeLead, Pledge, Cast, Propose, Count, Wait, Learn, Rebase, Call, Send, Restart, after_act}
 use Rattle.step_spec.specs.Coherent.{IsCoherent}
 use Rattle.step_spec.specs.Letters.{IsHeardAs}
@@ -209,7 +209,7 @@ record StandsTried (n : ℕ) (table : Table) (book : List Row) : Type 0 where
   w : World
   followed : IsFollowed n table (first_rows table) w
   tried : Tried n w
-  learned_of : Matches n (length table.jobs) (standing_after n (first_rows table) book) (votes_in book) [] w
+  learned_of : Matches n (table_size table) (standing_after n (first_rows table) book) (votes_in book) [] w
 
 first_tried : (n : ℕ) (rows : List JobRow) → Tried n (first_world rows)
 first_tried n rows = record { promised = λ q below member. omega arith; said = λ by message has. nothing_in has }
@@ -256,7 +256,7 @@ all_in n replicas others [] same tried = tt
 all_in n replicas others (message ∷ messages) same tried = (tried_in n replicas others (ballot_in message) same tried.0, all_in n replicas others messages same tried.1)
 
 pub named_tried : (n : ℕ) (table : Table) (book : List Row) (letter : PostedLetter) (messages : List Message) → n ≤ 7 → IsLegal n table book → Contains (standing_after n (first_rows table) book).posted letter
-    → IsHeardAs n (length table.jobs) letter.bytes letter.from messages → AllByRecursion (λ message. IsTried n (replicas_after n table book) (ballot_in message)) messages
+    → IsHeardAs n (table_size table) letter.bytes letter.from messages → AllByRecursion (λ message. IsTried n (replicas_after n table book) (ballot_in message)) messages
 named_tried n table book letter messages few legal has heard =
     let there = stands_tried n table book few legal in
     all_in n there.w.replicas (replicas_after n table book) messages there.learned_of.replicas

@@ -3,7 +3,7 @@ use Rattle.std.proofs.Common.{◌≡◌, ℕ, ◌<◌, ◌≤◌, Option, None, 
 use Rattle.std.specs.List.{AllZip, filter}
 use Rattle.std.proofs.lemmas.Bool.{cases_eq, eq-eqb, ne_eqb}
 use Rattle.due_set.specs.Table.{Table}
-use Rattle.launch_machine.specs.Clerk.{first_rows}
+use Rattle.launch_machine.specs.Clerk.{first_rows, table_size}
 use Rattle.cluster_sched.specs.declared.row.SchedRow.{SchedRow}
 use Rattle.step_spec.specs.Folds.{after_acts, calls_by, calls_of, sent_to}
 use Rattle.step_spec.specs.Propose.{campaign}
@@ -38,7 +38,7 @@ record CampaignTurn (members : ℕ) (table : Table) (who : ℕ) (situation : Sit
   later : Situation
   is : after_turns members situation rows ≡ later
   member : who < members
-  passes : Passes members table (length table.jobs) who (told.Campaign ∷ []) situation later
+  passes : Passes members table (table_size table) who (told.Campaign ∷ []) situation later
   waits : later.standing.waits who ≡ None
   mails : (q : ℕ) → later.mails q ≡ situation.mails q
 
@@ -58,8 +58,8 @@ campaign_turn members table who situation (row ∷ rows) more few turns follow =
   later = after_turn members situation row;
   is = ap (λ list. after_turns members (after_turn members situation row) list) turns.1;
   member = takes.member;
-  passes = subst (λ e. Passes members table (length table.jobs) who (e ∷ []) situation (after_turn members situation row)) takes.event_of
-      (turn_passes members table (length table.jobs) who Campaign does.made situation row does.is (follow row rows refl));
+  passes = subst (λ e. Passes members table (table_size table) who (e ∷ []) situation (after_turn members situation row)) takes.event_of
+      (turn_passes members table (table_size table) who Campaign does.made situation row does.is (follow row rows refl));
   waits =
       ap (λ turn. (after_row members situation.standing turn row.event row.letters).waits who) does.is
       ∙ ap (λ made. (after_row members situation.standing (Did who Campaign made) row.event row.letters).waits who) made
@@ -98,15 +98,15 @@ turn_of_campaign members table who at book rows situation after more goes =
 
 -- what was posted in the turn is heard whole
 posted_whole : (members : ℕ) (table : Table) (who : ℕ) (at : ℤ) (book rows : List Row) (situation after : Situation) (more : List PostedLetter) → GoesCampaign members table who at book rows situation after
-    → (after_turns members situation rows).standing.posted ≡ situation.standing.posted ++ more → AreWhole members (length table.jobs) more
+    → (after_turns members situation rows).standing.posted ≡ situation.standing.posted ++ more → AreWhole members (table_size table) more
 posted_whole members table who at book rows situation after more goes posted =
-    let jobs = length table.jobs in
+    let size = table_size table in
     let all = (standing_after members (first_rows table) (book ++ rows)).posted in
     let stood : (after_turns members situation rows).standing ≡ standing_after members (first_rows table) (book ++ rows) = stand_after members table book rows situation goes.standing in
     let same : after.standing.posted ≡ all = ap (λ (s : Situation). s.standing.posted) goes.round.is ∙ ap (λ (s : Standing). s.posted) stood in
     let parts : all ≡ situation.standing.posted ++ more = ap (λ (s : Standing). s.posted) (sym stood) ∙ posted in
     let whole = letters_are_whole members table (book ++ rows) goes.few goes.sound goes.legal (subst (λ list. IsWithinBounds (book ++ rows) list) same goes.limits) in
-    whole_right members jobs situation.standing.posted more (subst (λ list. AreWhole members jobs list) parts whole)
+    whole_right members size situation.standing.posted more (subst (λ list. AreWhole members size list) parts whole)
 
 pub campaign_leaves_no_fault : (members : ℕ) (table : Table) (who : ℕ) (at : ℤ) (book rows : List Row) (situation after : Situation) → 2 ≤ members → GoesCampaign members table who at book rows situation after
     → IsFaultless members after
@@ -122,31 +122,31 @@ campaign_leaves_no_fault members table who at book rows situation after more goe
 
 -- the mails after it
 mails_then : (members : ℕ) (table : Table) (who : ℕ) (at : ℤ) (book rows : List Row) (situation after : Situation) (cluster : Cluster) → GoesCampaign members table who at book rows situation after
-    → StandsForCluster members (length table.jobs) situation cluster → (turn : CampaignTurn members table who situation rows) → (q : ℕ) → q < members
-    → AllZip (IsLetterAt members (length table.jobs) after.standing.posted q) (after.mails q) ((after_campaign members who (unanswered who cluster)).mails q)
+    → StandsForCluster members (table_size table) situation cluster → (turn : CampaignTurn members table who situation rows) → (q : ℕ) → q < members
+    → AllZip (IsLetterAt members (table_size table) after.standing.posted q) (after.mails q) ((after_campaign members who (unanswered who cluster)).mails q)
 mails_then members table who at book rows situation after cluster goes there turn q below =
-    let jobs = length table.jobs in
+    let size = table_size table in
     let first = length situation.standing.posted in
     let is : after ≡ delivered first turn.later = goes.round.is ∙ ap (λ (s : Situation). delivered first s) turn.is in
     let whole = posted_whole members table who at book rows situation after turn.passes.more goes (ap (λ (s : Situation). s.standing.posted) turn.is ∙ turn.passes.posted) in
     let said = letter_from who (sent_to who q (step (identity_of members who) told.Campaign (situation.standing.replicas who))) in
     let state : situation.standing.replicas who ≡ cluster.replicas who = sym (there.replicas who turn.member) in
-    let heard : AllZip (IsHeardLike members jobs) (filter (is_to q) turn.passes.more) said =
-    subst (λ list. AllZip (IsHeardLike members jobs) (filter (is_to q) turn.passes.more) list) (append-nil said) (turn.passes.letters whole q below) in
-    let joined = letters_join members jobs turn.later situation.standing.posted turn.passes.more q said turn.passes.posted
+    let heard : AllZip (IsHeardLike members size) (filter (is_to q) turn.passes.more) said =
+    subst (λ list. AllZip (IsHeardLike members size) (filter (is_to q) turn.passes.more) list) (append-nil said) (turn.passes.letters whole q below) in
+    let joined = letters_join members size turn.later situation.standing.posted turn.passes.more q said turn.passes.posted
     (ap (λ runs. runs q) turn.passes.runs ∙ goes.faultless.runs q below) (turn.passes.cuts ∙ goes.faultless.uncut) heard in
-    let old : AllZip (IsLetterAt members jobs turn.later.standing.posted q) (turn.later.mails q) (cluster.mails q) =
-    subst (λ list. AllZip (IsLetterAt members jobs turn.later.standing.posted q) list (cluster.mails q)) (sym (turn.mails q))
-    (subst (λ posted. AllZip (IsLetterAt members jobs posted q) (situation.mails q) (cluster.mails q)) (sym turn.passes.posted)
-    (zip_posted members jobs situation.standing.posted turn.passes.more q (situation.mails q) (cluster.mails q) (there.mails q below))) in
-    let all = zip_append (IsLetterAt members jobs turn.later.standing.posted q) (turn.later.mails q) (cluster.mails q) (letters_for turn.later first q) said old joined in
-    subst (λ (s : Situation). AllZip (IsLetterAt members jobs s.standing.posted q) (s.mails q) ((after_campaign members who (unanswered who cluster)).mails q)) (sym is)
-    (subst (λ (s : State). AllZip (IsLetterAt members jobs turn.later.standing.posted q) (turn.later.mails q ++ letters_for turn.later first q)
+    let old : AllZip (IsLetterAt members size turn.later.standing.posted q) (turn.later.mails q) (cluster.mails q) =
+    subst (λ list. AllZip (IsLetterAt members size turn.later.standing.posted q) list (cluster.mails q)) (sym (turn.mails q))
+    (subst (λ posted. AllZip (IsLetterAt members size posted q) (situation.mails q) (cluster.mails q)) (sym turn.passes.posted)
+    (zip_posted members size situation.standing.posted turn.passes.more q (situation.mails q) (cluster.mails q) (there.mails q below))) in
+    let all = zip_append (IsLetterAt members size turn.later.standing.posted q) (turn.later.mails q) (cluster.mails q) (letters_for turn.later first q) said old joined in
+    subst (λ (s : Situation). AllZip (IsLetterAt members size s.standing.posted q) (s.mails q) ((after_campaign members who (unanswered who cluster)).mails q)) (sym is)
+    (subst (λ (s : State). AllZip (IsLetterAt members size turn.later.standing.posted q) (turn.later.mails q ++ letters_for turn.later first q)
     (cluster.mails q ++ letter_from who (sent_to who q (step (identity_of members who) told.Campaign s)))) state all)
 
 -- what stands after it is what the campaign makes of what stood before, but for the answer that waited
 pub campaign_stands : (members : ℕ) (table : Table) (who : ℕ) (at : ℤ) (book rows : List Row) (situation after : Situation) (cluster : Cluster) → 2 ≤ members → GoesCampaign members table who at book rows situation after
-    → StandsForCluster members (length table.jobs) situation cluster → StandsForCluster members (length table.jobs) after (after_campaign members who (unanswered who cluster))
+    → StandsForCluster members (table_size table) situation cluster → StandsForCluster members (table_size table) after (after_campaign members who (unanswered who cluster))
 campaign_stands members table who at book rows situation after cluster more goes there = record {
   replicas = replicas;
   waits = waits;

@@ -1,5 +1,6 @@
 -- When one replica of a situation leads alone, and how a legal book drains.
-use Rattle.std.specs.Prelude.{◌≡◌, ℕ, ℤ, List, length}
+use Rattle.std.specs.Prelude.{◌≡◌, ℕ, ℤ, List}
+use Rattle.launch_machine.specs.Clerk.{table_size}
 use Rattle.paxos_base.specs.declared.entry.Vote.{Vote}
 use Rattle.due_set.specs.Table.{Table}
 use Rattle.history.specs.Book.{Row}
@@ -17,7 +18,7 @@ pub record LeadsAlone (members : ℕ) (table : Table) (leader : ℕ) (situation 
   pub best : List Vote
   pub at : Progress
   pub over : at.table ≡ table
-  pub stands : StandsForCluster members (length table.jobs) situation cluster
+  pub stands : StandsForCluster members (table_size table) situation cluster
   pub stage : Stage members leader best at cluster
 
 -- The book is legal and goes on with a round of a drain: the replica stands for leader where it follows, and a round comes after that.

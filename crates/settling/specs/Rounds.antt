@@ -2,7 +2,7 @@
 use Rattle.std.specs.Prelude.{◌≡◌, ℕ, zero, suc, ◌*◌, ◌^◌, ◌<◌, ◌≤◌, ℤ, pos, true, List, [], ◌++◌, length, Option, Contains}
 use Rattle.zone_minutes.specs.Window.{IsInWindow}
 use Rattle.due_set.specs.Table.{IsSound, Table}
-use Rattle.launch_machine.specs.Clerk.{first_rows}
+use Rattle.launch_machine.specs.Clerk.{first_rows, table_size}
 use Rattle.cluster_sched.specs.declared.fate.Fate.TheVariants as fate
 use Rattle.cluster_sched.specs.declared.row.SchedRow.{SchedRow}
 use Rattle.history.specs.Book.{PostedLetter, Row, standing_after}
@@ -53,11 +53,11 @@ pub record StandsForRound (members : ℕ) (table : Table) (at : ℤ) (cluster : 
   pub answers : ℕ → Option SchedRow
   pub advised : IsAdvised members table at advice cluster
   pub answered : (who : ℕ) → who < members → IsAnswerTo (calls_at members at advice cluster who) (answers who)
-  pub stands : StandsForCluster members (length table.jobs) after (cluster_round members at advice answers cluster)
+  pub stands : StandsForCluster members (table_size table) after (cluster_round members at advice answers cluster)
 
 -- The situation stands for so many synchronous rounds, one after another.
 abbrev pub StandsForRounds : ℕ → Table → (at : ℤ) → ℕ → Cluster → Situation → Type 0
-StandsForRounds members table at zero cluster after = StandsForCluster members (length table.jobs) after cluster
+StandsForRounds members table at zero cluster after = StandsForCluster members (table_size table) after cluster
 StandsForRounds members table at (suc more) cluster after =
     (advice : ℕ → Advice) × (answers : ℕ → Option SchedRow) × IsAdvised members table at advice cluster
     × ((who : ℕ) → who < members → IsAnswerTo (calls_at members at advice cluster who) (answers who))

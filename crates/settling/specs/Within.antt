@@ -1,5 +1,6 @@
 -- After how many rounds of a drain one replica leads alone.
-use Rattle.std.specs.Prelude.{◌≡◌, ◌⊎◌, ℕ, zero, suc, ℤ, List, length, Option, None}
+use Rattle.std.specs.Prelude.{◌≡◌, ◌⊎◌, ℕ, zero, suc, ℤ, List, Option, None}
+use Rattle.launch_machine.specs.Clerk.{table_size}
 use Rattle.paxos_base.specs.declared.entry.Vote.{Vote}
 use Rattle.cluster_sched.specs.declared.row.SchedRow.{SchedRow}
 use Rattle.due_set.specs.Table.{Table}
@@ -37,12 +38,12 @@ after_first {members} one = cluster_round members one.now one.advice one.answers
 -- The situation stands for what a first campaign has left.
 pub record IsAfterCampaign (members : ℕ) (table : Table) (who : ℕ) (situation : Situation) : Type 0 where
   pub first : FirstCampaign members table who
-  pub stands : StandsForCluster members (length table.jobs) situation first.cluster
+  pub stands : StandsForCluster members (table_size table) situation first.cluster
 
 -- It stands for what is left a round later: the others have answered, and the candidate has heard none of them.
 pub record IsAfterAnswers (members : ℕ) (table : Table) (who : ℕ) (situation : Situation) : Type 0 where
   pub one : FirstRound members table who
-  pub stands : StandsForCluster members (length table.jobs) situation (after_first one)
+  pub stands : StandsForCluster members (table_size table) situation (after_first one)
 
 -- It stands for what is left two rounds later, where the candidate yields to a higher ballot that it has heard of.
 pub record IsAfterYielding (members : ℕ) (table : Table) (who : ℕ) (situation : Situation) : Type 0 where
@@ -52,7 +53,7 @@ pub record IsAfterYielding (members : ℕ) (table : Table) (who : ℕ) (situatio
   pub answers : ℕ → Option SchedRow
   pub advised : IsAdvised members one.first.at.table now advice (after_first one)
   pub yielded : HasYielded members who one.first.at.ballot (after_first one) (cluster_round members now advice answers (after_first one))
-  pub stands : StandsForCluster members (length table.jobs) situation (cluster_round members now advice answers (after_first one))
+  pub stands : StandsForCluster members (table_size table) situation (cluster_round members now advice answers (after_first one))
 
 -- ---- a second campaign
 
@@ -70,7 +71,7 @@ pub record IsAfterPromises (members : ℕ) (table : Table) (who : ℕ) (situatio
   pub answers : ℕ → Option SchedRow
   pub advised : IsAdvised members at.table now advice cluster
   pub alone : answers who ≡ None
-  pub stands : StandsForCluster members (length table.jobs) situation (cluster_round members now advice answers cluster)
+  pub stands : StandsForCluster members (table_size table) situation (cluster_round members now advice answers cluster)
 
 -- ---- the rounds that are left
 

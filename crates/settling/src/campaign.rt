@@ -2,7 +2,7 @@
 ghost use Rattle.std.specs.Prelude.{◌≡◌, ℕ, suc, ◌<◌, ◌≤◌, ℤ, List, [], ◌++◌, length, Contains};
 ghost use Rattle.std.specs.List.{AllByRecursion};
 ghost use Rattle.due_set.specs.Table.{Table};
-ghost use Rattle.launch_machine.specs.Clerk.{first_rows};
+ghost use Rattle.launch_machine.specs.Clerk.{first_rows, table_size};
 ghost use Rattle.step_spec.specs.Letters.{IsHeardAs};
 ghost use Rattle.step_spec.specs.Message.{Message, ballot_in};
 ghost use Rattle.step_spec.specs.Propose.{next_ballot};
@@ -31,7 +31,7 @@ pub fn a_ballot_is_tried_by_its_own_replica()
         → Contains (votes_in book) cast → IsTried members (standing_after members (first_rows table) book).replicas cast.vote.ballot }
     ensures named { (members : ℕ) (table : Table) (book : List Row) (letter : PostedLetter) (messages : List Message) → members ≤ 7
         → IsLegal members table book → Contains (standing_after members (first_rows table) book).posted letter
-        → IsHeardAs members (length table.jobs) letter.bytes letter.from messages
+        → IsHeardAs members (table_size table) letter.bytes letter.from messages
         → AllByRecursion (λ message. IsTried members (standing_after members (first_rows table) book).replicas (ballot_in message)) messages }
     ensures new { (members : ℕ) (table : Table) (book : List Row) (who owner : ℕ) → members ≤ 7 → IsLegal members table book
         → who < members → owner < members
@@ -43,8 +43,8 @@ pub fn a_ballot_is_tried_by_its_own_replica()
 /// but for the answer that waited for the replica, which is lost. No fault comes of it.
 pub fn a_campaign_in_a_book_is_a_campaign()
     ensures campaign { (members : ℕ) (table : Table) (who : ℕ) (at : ℤ) (book rows : List Row) (situation after : Situation) (cluster : Cluster) → 2 ≤ members
-        → GoesCampaign members table who at book rows situation after → StandsForCluster members (length table.jobs) situation cluster
-        → StandsForCluster members (length table.jobs) after (after_campaign members who (unanswered who cluster)) }
+        → GoesCampaign members table who at book rows situation after → StandsForCluster members (table_size table) situation cluster
+        → StandsForCluster members (table_size table) after (after_campaign members who (unanswered who cluster)) }
     ensures faultless { (members : ℕ) (table : Table) (who : ℕ) (at : ℤ) (book rows : List Row) (situation after : Situation) → 2 ≤ members
         → GoesCampaign members table who at book rows situation after → IsFaultless members after }
 {}
@@ -52,7 +52,7 @@ pub fn a_campaign_in_a_book_is_a_campaign()
 /// No fault comes of a round of a drain, whoever campaigns in it or not.
 pub fn a_drain_leaves_no_fault()
     ensures { (members : ℕ) (table : Table) (who : ℕ) (at : ℤ) (book rows : List Row) (situation after : Situation) (cluster : Cluster) → 2 ≤ members
-        → GoesDrainRound members table who at book rows situation after → StandsForCluster members (length table.jobs) situation cluster
+        → GoesDrainRound members table who at book rows situation after → StandsForCluster members (table_size table) situation cluster
         → IsFaultless members after }
 {}
 

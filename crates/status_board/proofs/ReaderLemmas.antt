@@ -17,14 +17,14 @@ pub record AreFronts (mine others both : List Shown) : Type 0 where
 pub some_states : (states : List Shown) (prefix : ℕ) → HasLastPrefix states prefix → 0 < length states
 some_states states prefix ends = let stands = last_stands states prefix ends.0 ends.1 in omega (arith, stands.1)
 
--- the others are the states of a board for as many jobs
-pub front_history : (jobs : ℕ) (mine others both : List Shown) (prefix : ℕ) → AreFronts mine others both → IsHistory jobs mine → HasLastPrefix others prefix
-    → IsHistory jobs others
-front_history jobs mine others both prefix fronts history ends =
+-- the others are the states of a board of as many rows
+pub front_history : (total : ℕ) (mine others both : List Shown) (prefix : ℕ) → AreFronts mine others both → IsHistory total mine → HasLastPrefix others prefix
+    → IsHistory total others
+front_history total mine others both prefix fronts history ends =
     let kept = fronts.kept.1 in
-    let same : kept.jobs ≡ jobs = same_jobs jobs kept.jobs mine both history kept.history fronts.mine_begins in
-    let all : IsHistory jobs both = subst (λ (n : ℕ). IsHistory n both) same kept.history in
-    history_front jobs others both all fronts.others_begin (some_states others prefix ends)
+    let same : kept.total ≡ total = same_jobs total kept.total mine both history kept.history fronts.mine_begins in
+    let all : IsHistory total both = subst (λ (n : ℕ). IsHistory n both) same kept.history in
+    history_front total others both all fronts.others_begin (some_states others prefix ends)
 
 -- the one whose last prefix is not higher begins the other
 pub mine_first : (mine others both : List Shown) (low high : ℕ) → AreFronts mine others both → HasLastPrefix mine low → HasLastPrefix others high → low ≤ high

@@ -3,7 +3,7 @@ use Rattle.std.proofs.Common.{◌≡◌, ℕ, ◌+◌, ◌<◌, ◌≤◌, inl, 
 use Rattle.std.proofs.lemmas.Bool.{cases_lt}
 use mathlib.Core.List.{IsPrefix}
 use Rattle.paxos_base.specs.declared.rows.JobRow.{JobRow}
-use Rattle.paxos_base.specs.Rows.{RowsStand, fresh_rows}
+use Rattle.paxos_base.specs.Rows.{AreNumbered, fresh_rows}
 use Rattle.status_board.specs.declared.shown.Shown.{Shown}
 use Rattle.status_board.specs.Shown.{HaveRowsOf, IsHistory, IsLast, PrefixesRise, shown_state_of}
 use Rattle.status_board.proofs.Beginnings.{get_first, get_last, get_snoc, get_within, prefix_get, prefix_shorter, prefix_whole}
@@ -47,36 +47,36 @@ rise_more states prefix rows next rise last above j k earlier later order at_j a
       ]
     ]
 
-pub rows_more : (jobs : ℕ) (states : List Shown) (next : Shown) → HaveRowsOf jobs states → RowsStand next.rows jobs → HaveRowsOf jobs (states ++ next ∷ [])
-rows_more jobs states next have stand k state at = elim (get_snoc states next k state at) [
+pub rows_more : (total : ℕ) (states : List Shown) (next : Shown) → HaveRowsOf total states → AreNumbered next.rows total → HaveRowsOf total (states ++ next ∷ [])
+rows_more total states next have stand k state at = elim (get_snoc states next k state at) [
   | inl inside ↦ have k state inside
-  | inr is ↦ subst (λ (s : Shown). RowsStand s.rows jobs) is.1 stand
+  | inr is ↦ subst (λ (s : Shown). AreNumbered s.rows total) is.1 stand
 ]
 
-pub history_more : (jobs : ℕ) (states : List Shown) (prefix : ℕ) (rows : List JobRow) (next : Shown) → IsHistory jobs states → IsLast states prefix rows
-    → prefix < next.prefix → RowsStand next.rows jobs → IsHistory jobs (states ++ next ∷ [])
-history_more jobs states prefix rows next history last above stand = record {
-  begins = prefix_get states (states ++ next ∷ []) 0 (shown_state_of 0 (fresh_rows jobs)) (next ∷ [], refl) history.begins;
+pub history_more : (total : ℕ) (states : List Shown) (prefix : ℕ) (rows : List JobRow) (next : Shown) → IsHistory total states → IsLast states prefix rows
+    → prefix < next.prefix → AreNumbered next.rows total → IsHistory total (states ++ next ∷ [])
+history_more total states prefix rows next history last above stand = record {
+  begins = prefix_get states (states ++ next ∷ []) 0 (shown_state_of 0 (fresh_rows total)) (next ∷ [], refl) history.begins;
   rise = rise_more states prefix rows next history.rise last above;
-  rows = rows_more jobs states next history.rows stand;
+  rows = rows_more total states next history.rows stand;
 }
 
 -- a beginning with a state is the states of a board too
-pub history_front : (jobs : ℕ) (front states : List Shown) → IsHistory jobs states → IsPrefix front states → 0 < length front → IsHistory jobs front
-history_front jobs front states history begins some =
+pub history_front : (total : ℕ) (front states : List Shown) → IsHistory total states → IsPrefix front states → 0 < length front → IsHistory total front
+history_front total front states history begins some =
     let first = get_first front some in
-    let same : first.0 ≡ shown_state_of 0 (fresh_rows jobs) = cc (prefix_get front states 0 first.0 begins first.1, history.begins) in record {
+    let same : first.0 ≡ shown_state_of 0 (fresh_rows total) = cc (prefix_get front states 0 first.0 begins first.1, history.begins) in record {
       begins = first.1 ∙ ap Some same;
       rise = λ j k earlier later order at_j at_k. history.rise j k earlier later order (prefix_get front states j earlier begins at_j) (prefix_get front states k later begins at_k);
       rows = λ k state at. history.rows k state (prefix_get front states k state begins at);
     }
 
 -- a beginning says how many jobs there are
-pub same_jobs : (jobs others : ℕ) (front states : List Shown) → IsHistory jobs front → IsHistory others states → IsPrefix front states → others ≡ jobs
-same_jobs jobs others front states one other begins =
-    let here = prefix_get front states 0 (shown_state_of 0 (fresh_rows jobs)) begins one.begins in
-    let same : shown_state_of 0 (fresh_rows others) ≡ shown_state_of 0 (fresh_rows jobs) = cc (other.begins, here) in
-    let mine = (one.rows 0 (shown_state_of 0 (fresh_rows jobs)) one.begins).count in
+pub same_jobs : (total others : ℕ) (front states : List Shown) → IsHistory total front → IsHistory others states → IsPrefix front states → others ≡ total
+same_jobs total others front states one other begins =
+    let here = prefix_get front states 0 (shown_state_of 0 (fresh_rows total)) begins one.begins in
+    let same : shown_state_of 0 (fresh_rows others) ≡ shown_state_of 0 (fresh_rows total) = cc (other.begins, here) in
+    let mine = (one.rows 0 (shown_state_of 0 (fresh_rows total)) one.begins).count in
     let theirs = (other.rows 0 (shown_state_of 0 (fresh_rows others)) other.begins).count in
     sym theirs ∙ (ap (λ (s : Shown). length s.rows) same ∙ mine)
 
@@ -110,12 +110,12 @@ front_is_whole front states prefix rows others begins rise last_front last =
     ]
 
 -- the states of a board before the log
-pub history_first : (jobs : ℕ) → RowsStand (fresh_rows jobs) jobs → IsHistory jobs (shown_state_of 0 (fresh_rows jobs) ∷ [])
-history_first jobs stand = record {
+pub history_first : (total : ℕ) → AreNumbered (fresh_rows total) total → IsHistory total (shown_state_of 0 (fresh_rows total) ∷ [])
+history_first total stand = record {
   begins = refl;
-  rise = λ j k earlier later order at_j at_k. (let one = get_within (shown_state_of 0 (fresh_rows jobs) ∷ []) k later at_k in absurd (omega arith));
-  rows = λ k state at. elim (get_snoc [] (shown_state_of 0 (fresh_rows jobs)) k state at) [
+  rise = λ j k earlier later order at_j at_k. (let one = get_within (shown_state_of 0 (fresh_rows total) ∷ []) k later at_k in absurd (omega arith));
+  rows = λ k state at. elim (get_snoc [] (shown_state_of 0 (fresh_rows total)) k state at) [
     | inl inside ↦ absurd (cc inside)
-    | inr is ↦ subst (λ (s : Shown). RowsStand s.rows jobs) is.1 stand
+    | inr is ↦ subst (λ (s : Shown). AreNumbered s.rows total) is.1 stand
   ];
 }

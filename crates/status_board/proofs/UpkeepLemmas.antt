@@ -6,7 +6,8 @@ use mathlib.Core.List.{IsPrefix}
 use Rattle.due_set.specs.Table.{Table}
 use Rattle.launch_machine.specs.Machine.{StandsFor}
 use Rattle.left_right.specs.Sides.{view}
-use Rattle.paxos_base.specs.Rows.{RowsStand}
+use Rattle.paxos_base.specs.Rows.{AreNumbered, RowsStand, row_count}
+use Rattle.launch_machine.specs.Clerk.{table_size}
 use Rattle.paxos_base.specs.declared.rows.JobRow.{JobRow}
 use Rattle.status_board.specs.declared.change.Change.{Change}
 use Rattle.status_board.specs.declared.keeper.Keeper.{Keeper}
@@ -22,11 +23,11 @@ use Rattle.status_board.specs.Upkeep.{IsKeptUp, changes_unshown, latest_posted, 
 use Rattle.status_board.proofs.Beginnings.{prefix_self, prefix_trans}
 use Rattle.status_board.proofs.StateLemmas.{same_jobs}
 
--- rows of the table's jobs are rows of the states' jobs
-pub rows_for : (table : Table) (states : List Shown) (rows : List JobRow) → IsHistory (length table.jobs) states → RowsStand rows (length table.jobs)
-    → (jobs : ℕ) → IsHistory jobs states → RowsStand rows jobs
-rows_for table states rows history stand jobs other =
-    subst (λ (n : ℕ). RowsStand rows n) (same_jobs jobs (length table.jobs) states states other history (prefix_self states)) stand
+-- rows of the table are as many as those of the states
+pub rows_for : (table : Table) (states : List Shown) (rows : List JobRow) → IsHistory (row_count (table_size table)) states → RowsStand rows (table_size table)
+    → (total : ℕ) → IsHistory total states → AreNumbered rows total
+rows_for table states rows history stand total other =
+    subst (λ (n : ℕ). AreNumbered rows n) (same_jobs total (row_count (table_size table)) states states other history (prefix_self states)) stand.numbered
 
 -- one change more
 pub more_changes : (shown before after : Posted) (old new : List Change) (change : Change) → fold changed shown old ≡ before → new ≡ old ++ change ∷ []
@@ -41,7 +42,7 @@ pub record Follows (old new : Keeper) : Type 0 where
   pub book : new.past.book ≡ old.past.book
   pub longer : IsPrefix old.past.log new.past.log
 
-pub kept_up : (table : Table) (was ready : Bool) (old new : Keeper) → IsKeptUp table was old → Follows old new → IsHistory (length table.jobs) new.past.log
+pub kept_up : (table : Table) (was ready : Bool) (old new : Keeper) → IsKeptUp table was old → Follows old new → IsHistory (row_count (table_size table)) new.past.log
     → StandsFor table new.latest.machine → (ready ≡ true → IsShown (latest_posted new)) → (ready ≡ true → fold changed (shown_by new) (changes_unshown new) ≡ latest_posted new)
     → IsKeptUp table ready new
 kept_up table was ready old new kept follows history stands last changes = record {
@@ -58,7 +59,7 @@ kept_up table was ready old new kept follows history stands last changes = recor
 
 -- one state more, by what is new in its rows
 pub next_kept : (table : Table) (old new : Keeper) (latest : Latest) (rows : NewRows) → IsKeptUp table true old → Follows old new → new.latest ≡ latest
-    → StandsFor table latest.machine → with_new rows old.latest.machine.rows ≡ latest.machine.rows → IsHistory (length table.jobs) new.past.log
+    → StandsFor table latest.machine → with_new rows old.latest.machine.rows ≡ latest.machine.rows → IsHistory (row_count (table_size table)) new.past.log
     → new.past.log ≡ old.past.log ++ shown_state_of latest.prefix latest.machine.rows ∷ []
     → changes_unshown new ≡ changes_unshown old ++ record { past = new.past; prefix = latest.prefix; rows = rows } ∷ [] → IsKeptUp table true new
 next_kept table old new latest rows kept follows is stands fresh history added more = kept_up table true true old new kept follows history
@@ -88,7 +89,7 @@ for_table one other ready keeper kept stands = record {
   named = kept.named;
   board = kept.board;
   begins = kept.begins;
-  history = subst (λ (n : ℕ). IsHistory n keeper.past.log) (sym kept.stands.rows.count ∙ stands.rows.count) kept.history;
+  history = subst (λ (n : ℕ). IsHistory n keeper.past.log) (sym kept.stands.rows.numbered.count ∙ stands.rows.numbered.count) kept.history;
   stands = stands;
   last = kept.last;
   changes = kept.changes;

@@ -7,16 +7,16 @@ use Rattle.status_board.specs.Shown.{IsHistory, IsLast}
 
 -- the book's one word is the prefix of the last state
 pub record IsKept (cells : List Cell) (states : List Shown) : Type 0 where
-  pub jobs : ℕ
+  pub total : ℕ
   pub prefix : ℕ
   pub rows : List JobRow
   pub word : cells ≡ (prefix, true) ∷ []
   pub last : IsLast states prefix rows
-  pub history : IsHistory jobs states
+  pub history : IsHistory total states
 
 -- they are the states of a board
 abbrev pub AreOfBoard : List Shown → Type 0
-AreOfBoard states = (jobs : ℕ) × IsHistory jobs states
+AreOfBoard states = (total : ℕ) × IsHistory total states
 
 -- the book's word
 abbrev pub word_of : Book → Named

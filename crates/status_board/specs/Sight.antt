@@ -11,16 +11,16 @@ pub record Marked : Type 0 where
   pub board : Book
   pub states : List Shown
 
--- a reader of a board for so many jobs: the states that it has seen, or was told of
+-- a reader of a board of so many rows: the states that it has seen, or was told of
 pub record Sight : Type 0 where
   pub board : Book
-  pub jobs : ℕ
+  pub total : ℕ
   pub states : List Shown
 
 -- a state of a board, which is seen, and the states that have been seen by then
 pub record Viewed : Type 0 where
   pub board : Book
-  pub jobs : ℕ
+  pub total : ℕ
   pub states : List Shown
   pub prefix : ℕ
   pub rows : List JobRow
@@ -33,7 +33,7 @@ HasLastPrefix states prefix = (rows : List JobRow) × IsLast states prefix rows
 -- prefixes rise; and they begin with all that the reader had seen before, and was told of
 pub record ViewsOn (reader : Sight) (view : Viewed) : Type 0 where
   pub board : view.board ≡ reader.board
-  pub jobs : view.jobs ≡ reader.jobs
+  pub total : view.total ≡ reader.total
   pub begins : IsPrefix reader.states view.states
   pub last : IsLast view.states view.prefix view.rows
-  pub history : IsHistory view.jobs view.states
+  pub history : IsHistory view.total view.states

@@ -1,6 +1,8 @@
 -- What the writer keeps true of its parts.
 use Rattle.std.specs.Prelude.{◌≡◌, List, Bool, true, Some, drop, length, fold}
 use mathlib.Core.List.{IsPrefix}
+use Rattle.launch_machine.specs.Clerk.{table_size}
+use Rattle.paxos_base.specs.Rows.{row_count}
 use Rattle.due_set.specs.Table.{Table}
 use Rattle.launch_machine.specs.Machine.{StandsFor}
 use Rattle.left_right.specs.Sides.{view}
@@ -35,7 +37,7 @@ pub record IsKeptUp (table : Table) (ready : Bool) (keeper : Keeper) : Type 0 wh
   pub named : view keeper.shower.desk.place ≡ Some (board_name_of keeper.past.book)
   pub board : (shown_by keeper).board ≡ keeper.past.book
   pub begins : IsPrefix (shown_by keeper).states keeper.past.log
-  pub history : IsHistory (length table.jobs) keeper.past.log
+  pub history : IsHistory (row_count (table_size table)) keeper.past.log
   pub stands : StandsFor table keeper.latest.machine
   pub last : ready ≡ true → IsShown (latest_posted keeper)
   pub changes : ready ≡ true → fold changed (shown_by keeper) (changes_unshown keeper) ≡ latest_posted keeper

@@ -38,7 +38,7 @@ pub record Starts (table : Table) (writer : Writing) : Type 0 where
 
 -- a reader that has seen what is published
 abbrev pub sight_of : Writing → Sight
-sight_of writer = record { board = writer.board; jobs = length writer.machine.rows; states = writer.published }
+sight_of writer = record { board = writer.board; total = length writer.machine.rows; states = writer.published }
 
 -- readers of the board, which have seen what is published
 abbrev pub AreReadersOf : Writing → List Sight → Type 0

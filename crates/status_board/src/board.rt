@@ -14,6 +14,7 @@ use crate::sheet::Sheet;
 use crate::writer::BoardWriter;
 use cron_io::OutOfMemory;
 use due_set::JobTable;
+use launch_machine::table_size;
 use left_right::writer::Writer;
 use std::alloc::{AllocError, Global};
 use std::sync::Wait;
@@ -38,8 +39,8 @@ impl Keeper {
     {
         let latest = Latest::first(alloc, table)?;
         let (past, head) = begin(&latest, table);
-        let first = Sheet::first(alloc, &past, table.jobs())?;
-        let second = Sheet::first(alloc, &past, table.jobs())?;
+        let first = Sheet::first(alloc, &past, table_size(table))?;
+        let second = Sheet::first(alloc, &past, table_size(table))?;
         let shower = Writer::new(alloc, first, second, readers as usize)?;
         let (shower, shown) = shower.publish_as::<Show, R>(rt);
         let Ok(()) = shown else { unreachable!() };
@@ -54,8 +55,8 @@ impl Keeper {
 
 impl BoardWriter {
     // A reader that has seen what is published.
-    fn reader(&mut self, jobs: u32) -> Result<BoardReader, AllocError>
-        requires jobs { jobs ≡ length self.old.machine.rows }
+    fn reader(&mut self, total: u64) -> Result<BoardReader, AllocError>
+        requires total { total ≡ length self.old.machine.rows }
         requires ready { self.old.ready ≡ true }
         requires published { self.old.published ≡ self.old.states }
         ensures same { self.new ≡ self.old }
@@ -67,7 +68,7 @@ impl BoardWriter {
             reader,
             past: self.keeper.past.again(),
             prefix: self.keeper.latest.prefix,
-            jobs,
+            total,
         })
     }
 
@@ -75,10 +76,10 @@ impl BoardWriter {
     fn readers(
         &mut self,
         alloc: Global,
-        jobs: u32,
+        total: u64,
         count: u8,
     ) -> Result<Vec<BoardReader>, OutOfMemory>
-        requires jobs { jobs ≡ length self.old.machine.rows }
+        requires total { total ≡ length self.old.machine.rows }
         requires ready { self.old.ready ≡ true }
         requires published { self.old.published ≡ self.old.states }
         ensures same { self.new ≡ self.old }
@@ -87,7 +88,7 @@ impl BoardWriter {
     {
         let mut readers = Vec::new(alloc);
         'readers: for _ in 0..count {
-            readers.push(self.reader(jobs)?)?;
+            readers.push(self.reader(total)?)?;
         }
         Ok(readers)
     }
@@ -116,7 +117,7 @@ impl Board {
             alloc,
             ready: true,
         };
-        match writer.readers(alloc, table.jobs(), readers) {
+        match writer.readers(alloc, table_size(table).row_count(), readers) {
             Ok(readers) => Ok((writer, readers)),
             Err(fault) => {
                 writer.end(rt);

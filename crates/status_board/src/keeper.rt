@@ -1,7 +1,7 @@
 //! The states of a board as its writer keeps them: the latest one, those before it, and what readers are shown.
 ghost use Rattle.std.specs.Prelude.{◌≡◌, ◌+◌, ◌<◌, ◌^◌, ◌∷◌, ◌++◌, ℕ, [], OnOk, OnErr, length, true, false};
 ghost use mathlib.Core.List.{IsPrefix};
-ghost use Rattle.paxos_base.specs.Rows.{RowsStand};
+ghost use Rattle.paxos_base.specs.Rows.{AreNumbered};
 ghost use Rattle.due_set.specs.Table.{Table};
 ghost use Rattle.launch_machine.specs.Clerk.{Applies};
 ghost use Rattle.launch_machine.specs.Machine.{CanCount, StandsFor};
@@ -39,13 +39,13 @@ impl Keeper {
         requires history { AreOfBoard self.old.past.log }
         requires last { HasLastPrefix self.old.past.log before }
         requires rises { before < self.old.latest.prefix }
-        requires rows { (jobs : ℕ) → IsHistory jobs self.old.past.log → RowsStand self.old.latest.machine.rows jobs }
+        requires rows { (total : ℕ) → IsHistory total self.old.past.log → AreNumbered self.old.latest.machine.rows total }
         ensures desk { self.new.shower.desk ≡ self.old.shower.desk }
         ensures head { self.new.head ≡ self.old.head }
         ensures latest { self.new.latest ≡ self.old.latest }
         ensures book { self.new.past.book ≡ self.old.past.book }
         ensures longer { IsPrefix self.old.past.log self.new.past.log }
-        ensures history { (jobs : ℕ) → IsHistory jobs self.old.past.log → IsHistory jobs self.new.past.log }
+        ensures history { (total : ℕ) → IsHistory total self.old.past.log → IsHistory total self.new.past.log }
         ensures added { OnOk result (self.new.past.log ≡ self.old.past.log ++ shown_state_of self.old.latest.prefix self.old.latest.machine.rows ∷ []) }
         ensures changes { OnOk result (changes_unshown self.new
             ≡ changes_unshown self.old ++ record { past = self.new.past; prefix = self.old.latest.prefix; rows = rows } ∷ []) }

@@ -1,7 +1,7 @@
 //! The latest state, as the writer has it.
 ghost use Rattle.std.specs.Prelude.{◌≡◌, ◌+◌, ◌<◌, ◌^◌, IfOk, Some, length, slice_get};
 ghost use Rattle.paxos_base.specs.Rows.{RowsStand};
-ghost use Rattle.launch_machine.specs.Clerk.{Applies, first_rows};
+ghost use Rattle.launch_machine.specs.Clerk.{Applies, first_rows, table_size};
 ghost use Rattle.launch_machine.specs.Machine.{CanCount, StandsFor};
 ghost use Rattle.status_board.specs.Change.{job_in, with_new};
 
@@ -49,7 +49,7 @@ impl Latest {
         prefix: u64,
         rows: &RowList,
     ) -> Result<Latest, OutOfMemory>
-        requires { RowsStand rows.now (length table.now.jobs) }
+        requires { RowsStand rows.now (table_size table.now) }
         ensures prefix { IfOk result (λ latest. latest.prefix ≡ prefix) }
         ensures rows { IfOk result (λ latest. latest.machine.rows ≡ rows.now) }
         ensures stands { IfOk result (λ latest. StandsFor table.now latest.machine) }
@@ -75,7 +75,7 @@ impl Latest {
         let Some(job) = job_of(entry) else {
             return NewRows::Same;
         };
-        if job >= table.jobs() {
+        if job > table.jobs() {
             return NewRows::Same;
         }
         NewRows::One(self.machine.row(job))

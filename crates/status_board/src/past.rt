@@ -3,8 +3,8 @@
 ghost use Rattle.std.specs.Prelude.{◌≡◌, ◌<◌, ◌∷◌, ◌++◌, [], IsTrue, ℕ, length};
 ghost use mathlib.Core.List.{IsPrefix};
 ghost use Rattle.due_set.specs.Table.{Table};
-ghost use Rattle.launch_machine.specs.Clerk.{first_rows};
-ghost use Rattle.paxos_base.specs.Rows.{RowsStand};
+ghost use Rattle.launch_machine.specs.Clerk.{first_rows, table_size};
+ghost use Rattle.paxos_base.specs.Rows.{AreNumbered, RowsStand, row_count};
 ghost use Rattle.status_board.specs.History.{AreOfBoard, word_of};
 ghost use Rattle.status_board.specs.Shown.{IsHistory, shown_state_of};
 ghost use Rattle.status_board.specs.Sight.{HasLastPrefix};
@@ -79,9 +79,9 @@ impl Plain<Latest, Shown, u64> for Adding {
 pub(crate) fn begin(latest: &Latest, table: &JobTable) -> (Past, Head)
     requires prefix { latest.now.prefix ≡ 0 }
     requires rows { latest.now.machine.rows ≡ first_rows table.now }
-    requires stand { RowsStand latest.now.machine.rows (length table.now.jobs) }
+    requires stand { RowsStand latest.now.machine.rows (table_size table.now) }
     ensures states { result.0.log ≡ shown_state_of latest.now.prefix latest.now.machine.rows ∷ [] }
-    ensures history { IsHistory (length table.now.jobs) result.0.log }
+    ensures history { IsHistory (row_count (table_size table.now)) result.0.log }
     ensures word { result.1 ≡ word_of result.0.book }
 {
     let (past, mut pens) = Seen::open_row::<Latest, History>(latest, Start::alone(), 1);
@@ -96,10 +96,10 @@ pub(crate) fn add(head: &Head, past: &mut Past, before: u64, latest: &Latest) ->
     requires history { AreOfBoard past.old.log }
     requires last { HasLastPrefix past.old.log before }
     requires rises { before < latest.now.prefix }
-    requires rows { (jobs : ℕ) → IsHistory jobs past.old.log → RowsStand latest.now.machine.rows jobs }
+    requires rows { (total : ℕ) → IsHistory total past.old.log → AreNumbered latest.now.machine.rows total }
     ensures book { past.new.book ≡ past.old.book }
     ensures longer { IsPrefix past.old.log past.new.log }
-    ensures history { (jobs : ℕ) → IsHistory jobs past.old.log → IsHistory jobs past.new.log }
+    ensures history { (total : ℕ) → IsHistory total past.old.log → IsHistory total past.new.log }
     ensures added { IsTrue result → past.new.log ≡ past.old.log ++ shown_state_of latest.now.prefix latest.now.machine.rows ∷ [] }
 {
     let mut offer: Offer<Shown, u64, History, Nothing> = past.plain::<Nothing, Latest, Adding>(

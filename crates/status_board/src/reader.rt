@@ -21,7 +21,7 @@ pub struct BoardReader {
     // The states that it has seen or was told of, and the prefix of their last.
     pub(crate) past: Past,
     pub(crate) prefix: u64,
-    pub(crate) jobs: u32,
+    pub(crate) total: u64,
 }
 
 impl Model for BoardReader {
@@ -33,11 +33,11 @@ impl Model for BoardReader {
 
     ghost Value = { Sight };
 
-    ghost view = { λ r. record { board = r.past.book; jobs = r.jobs; states = r.past.log } };
+    ghost view = { λ r. record { board = r.past.book; total = r.total; states = r.past.log } };
 
     ghost invariant = { λ r.
         (name_at r.reader.place ≡ Some (board_name_of r.past.book)) × HasLastPrefix r.past.log r.prefix
-        × IsHistory r.jobs r.past.log };
+        × IsHistory r.total r.past.log };
 }
 
 impl BoardReader {
@@ -45,7 +45,7 @@ impl BoardReader {
     pub fn told(self, mark: &Mark) -> BoardReader
         requires { mark.now.board ≡ self.board }
         ensures board { result.board ≡ self.board }
-        ensures jobs { result.jobs ≡ self.jobs }
+        ensures total { result.total ≡ self.total }
         ensures begins { IsPrefix self.states result.states }
         ensures told { IsPrefix mark.now.states result.states }
         ensures either { (result.states ≡ self.states) ⊎ (result.states ≡ mark.now.states) }
@@ -70,7 +70,7 @@ impl BoardReader {
             reader,
             past,
             prefix,
-            jobs,
+            total,
         } = self;
         let reading = match reader.enter_as::<LetIn>() {
             Ok(reading) => reading,
@@ -79,7 +79,7 @@ impl BoardReader {
                     reader,
                     past,
                     prefix,
-                    jobs,
+                    total,
                 });
             }
         };
@@ -88,12 +88,12 @@ impl BoardReader {
                 reader: reading.leave(),
                 past,
                 prefix,
-                jobs,
+                total,
             });
         }
         let mut both = past;
         both.learn(&reading.get().past());
-        Ok(BoardView { reading, jobs })
+        Ok(BoardView { reading, total })
     }
 
     /// The state of the board that was published last, which stays as it is until the view is left. It waits for the board
@@ -116,7 +116,7 @@ impl BoardReader {
 /// A state of a board, as a reader sees it. It isn't dropped: `leave` ends it.
 pub struct BoardView {
     reading: Reading<Sheet, Option<Name>, Naming>,
-    jobs: u32,
+    total: u64,
 }
 
 impl Model for BoardView {
@@ -130,7 +130,7 @@ impl Model for BoardView {
 
     ghost view = { λ v. record {
       board = v.reading.part.value.board;
-      jobs = v.jobs;
+      total = v.total;
       states = v.reading.part.value.states;
       prefix = v.reading.part.value.prefix;
       rows = v.reading.part.value.rows;
@@ -138,7 +138,7 @@ impl Model for BoardView {
 
     ghost invariant = { λ v.
         (name_at v.reading.place ≡ Some (board_name_of v.reading.part.value.board)) × IsShown v.reading.part.value
-        × IsHistory v.jobs v.reading.part.value.states };
+        × IsHistory v.total v.reading.part.value.states };
 }
 
 impl BoardView {
@@ -151,7 +151,7 @@ impl BoardView {
 
     /// The row of a job, by its number in the board's table.
     pub fn row(&self, job: u32) -> JobRow
-        requires { job < self.now.jobs }
+        requires { job < self.now.total }
         ensures { slice_get self.now.rows job ≡ Some result }
     {
         self.reading.get().row(job)
@@ -160,17 +160,17 @@ impl BoardView {
     /// Ends the view.
     pub fn leave(self) -> BoardReader
         ensures board { result.board ≡ self.board }
-        ensures jobs { result.jobs ≡ self.jobs }
+        ensures total { result.total ≡ self.total }
         ensures states { result.states ≡ self.states }
     {
-        let BoardView { reading, jobs } = self;
+        let BoardView { reading, total } = self;
         let past = reading.get().past();
         let prefix = reading.get().prefix();
         BoardReader {
             reader: reading.leave(),
             past,
             prefix,
-            jobs,
+            total,
         }
     }
 }

@@ -1,12 +1,12 @@
 //! What readers are shown. There are two of it, and the writer changes the one that readers don't have.
 ghost use Rattle.std.specs.Prelude.{◌≡◌, ◌==◌, ◌<◌, Some, if◌then◌else◌, length, slice_get, slice_set, IfOk};
-ghost use Rattle.paxos_base.specs.Rows.{fresh_rows};
+ghost use Rattle.paxos_base.specs.Rows.{fresh_rows, row_count};
 
 use crate::change::{Change, NewRows};
 use crate::past::Past;
 use cron_io::OutOfMemory;
 use left_right::Absorb;
-use paxos_base::{JobRow, RowList};
+use paxos_base::{JobRow, RowList, TableSize};
 use std::alloc::{AllocError, Global};
 use std::marker::Model;
 
@@ -75,16 +75,16 @@ fn put_rows(rows: &mut [JobRow], others: &[JobRow])
 
 impl Sheet {
     /// A fresh row for each job, before the log.
-    pub fn first(alloc: Global, past: &Past, jobs: u32) -> Result<Sheet, OutOfMemory>
+    pub fn first(alloc: Global, past: &Past, size: TableSize) -> Result<Sheet, OutOfMemory>
         ensures board { IfOk result (λ sheet. sheet.board ≡ past.now.book) }
         ensures states { IfOk result (λ sheet. sheet.states ≡ past.now.log) }
         ensures prefix { IfOk result (λ sheet. sheet.prefix ≡ 0) }
-        ensures rows { IfOk result (λ sheet. sheet.rows ≡ fresh_rows jobs) }
+        ensures rows { IfOk result (λ sheet. sheet.rows ≡ fresh_rows (row_count size)) }
     {
         Ok(Sheet {
             past: past.again(),
             prefix: 0,
-            rows: RowList::fresh(alloc, jobs)?.items,
+            rows: RowList::fresh(alloc, size)?.items,
         })
     }
 

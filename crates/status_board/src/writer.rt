@@ -1,6 +1,7 @@
 //! The writer of a board.
 ghost use Rattle.std.specs.Prelude.{◌≡◌, ◌≢◌, ◌<◌, ◌≤◌, ◌^◌, ◌↔◌, IsTrue, Ok, IfOk, OnOk, Some, length, slice_get, true, false};
 ghost use Rattle.launch_machine.specs.Machine.{StandsFor, CountsBelow};
+ghost use Rattle.launch_machine.specs.Clerk.{table_size};
 ghost use Rattle.paxos_base.specs.Rows.{RowsStand};
 ghost use Rattle.status_board.specs.Writing.{HasNext, ArePublishedInOrder, Learns, mark_of};
 
@@ -111,7 +112,7 @@ impl BoardWriter {
     ) -> Result<bool, OutOfMemory>
         requires table { StandsFor table.now self.old.machine }
         requires ready { self.old.ready ≡ true }
-        requires stand { RowsStand rows.now (length table.now.jobs) }
+        requires stand { RowsStand rows.now (table_size table.now) }
         ensures newer { IfOk result (λ installed. IsTrue installed ↔ (self.old.prefix < base)) }
         ensures installed { result ≡ Ok true → HasNext self.old self.new base rows.now }
         ensures kept { base ≤ self.old.prefix → (result ≡ Ok false) × (self.new ≡ self.old) }

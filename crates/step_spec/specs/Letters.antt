@@ -1,6 +1,8 @@
 -- The bytes of letters, and as what a replica hears them. Source: docs/WIRE.md; the bounds are this project's.
 use Rattle.std.specs.Prelude.{◌≡◌, ℕ, ◌^◌, ◌==◌, ◌&&◌, nat_lt, Bool, true, List, [], ◌∷◌, length, if◌then◌else◌}
 use Rattle.std.specs.List.{AllZip, flat_map}
+use Rattle.paxos_base.specs.Rows.{row_count, fits_table}
+use Rattle.paxos_base.specs.declared.rows.TableSize.{TableSize}
 use Rattle.paxos_base.specs.Ballot.{round_of}
 use Rattle.paxos_base.specs.declared.rows.JobRow.{JobRow}
 use Rattle.paxos_letter.specs.Letters.{Spells}
@@ -25,38 +27,39 @@ is_small_slot slot = nat_lt slot (2 ^ 62)
 abbrev pub is_small_row : JobRow → Bool
 is_small_row row = nat_lt row.launched (2 ^ 31) && nat_lt row.voided (2 ^ 31)
 
--- what the packet carries is within the bounds that a replica counts with, and a copy of rows has one for each job
-abbrev pub is_small : ℕ → Packet → Bool
-is_small jobs (Prepare ballot slot) = is_small_ballot ballot && is_small_slot slot
-is_small jobs (Promise ballot slot count) = is_small_ballot ballot && is_small_slot slot
-is_small jobs (OldVote ballot slot cast entry) = is_small_ballot ballot && (is_small_slot slot && is_small_ballot cast)
-is_small jobs (Accept ballot slot entry) = is_small_ballot ballot && is_small_slot slot
-is_small jobs (Accepted ballot slot) = is_small_ballot ballot && is_small_slot slot
-is_small jobs (Nack ballot promised) = is_small_ballot ballot && is_small_ballot promised
-is_small jobs (Known slot entry) = is_small_slot slot
-is_small jobs (AskFrom slot) = is_small_slot slot
-is_small jobs (Snap slot count) = is_small_slot slot && (count == jobs)
-is_small jobs (SnapRow slot row) = is_small_slot slot && is_small_row row
-is_small jobs (Lead ballot slot) = is_small_ballot ballot && is_small_slot slot
+-- what the packet carries is within the bounds that a replica counts with; a copy of rows has as many as a table of this size,
+-- and each fits that table
+abbrev pub is_small : TableSize → Packet → Bool
+is_small size (Prepare ballot slot) = is_small_ballot ballot && is_small_slot slot
+is_small size (Promise ballot slot count) = is_small_ballot ballot && is_small_slot slot
+is_small size (OldVote ballot slot cast entry) = is_small_ballot ballot && (is_small_slot slot && is_small_ballot cast)
+is_small size (Accept ballot slot entry) = is_small_ballot ballot && is_small_slot slot
+is_small size (Accepted ballot slot) = is_small_ballot ballot && is_small_slot slot
+is_small size (Nack ballot promised) = is_small_ballot ballot && is_small_ballot promised
+is_small size (Known slot entry) = is_small_slot slot
+is_small size (AskFrom slot) = is_small_slot slot
+is_small size (Snap slot count) = is_small_slot slot && (count == row_count size)
+is_small size (SnapRow slot row) = is_small_slot slot && (is_small_row row && fits_table size row)
+is_small size (Lead ballot slot) = is_small_ballot ballot && is_small_slot slot
 
 -- each packet is
-abbrev pub are_small : ℕ → List Packet → Bool
-are_small jobs [] = true
-are_small jobs (packet ∷ packets) = is_small jobs packet && are_small jobs packets
+abbrev pub are_small : TableSize → List Packet → Bool
+are_small size [] = true
+are_small size (packet ∷ packets) = is_small size packet && are_small size packets
 
 -- there are fewer than 2^31 packets, and each is within the bounds
-abbrev pub is_small_letter : ℕ → List Packet → Bool
-is_small_letter jobs packets = nat_lt (length packets) (2 ^ 31) && are_small jobs packets
+abbrev pub is_small_letter : TableSize → List Packet → Bool
+is_small_letter size packets = nat_lt (length packets) (2 ^ 31) && are_small size packets
 
 -- Packets beyond the bounds are heard as none.
-abbrev pub heard_in : ℕ → List Packet → List Message
-heard_in jobs packets = if is_small_letter jobs packets then messages_of packets else []
+abbrev pub heard_in : TableSize → List Packet → List Message
+heard_in size packets = if is_small_letter size packets then messages_of packets else []
 
 -- the bytes are a letter of that member, and are heard as these messages
-pub record IsHeardAs (members jobs : ℕ) (bytes : List ℕ) (from : ℕ) (messages : List Message) : Type 0 where
+pub record IsHeardAs (members : ℕ) (size : TableSize) (bytes : List ℕ) (from : ℕ) (messages : List Message) : Type 0 where
   pub packets : List Packet
   pub spells : Spells members from packets bytes
-  pub heard : messages ≡ heard_in jobs packets
+  pub heard : messages ≡ heard_in size packets
 
 -- the letter has the messages to its replica
 pub record IsSpelled (members from : ℕ) (addressed : Addressed) (letter : OutLetter) : Type 0 where

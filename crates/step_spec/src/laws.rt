@@ -1,5 +1,6 @@
 //! Laws of a replica's step. Each is the contract of a function that does nothing.
 ghost use Rattle.std.specs.Prelude.{◌≡◌, ◌≢◌, ◌≤◌, ◌<◌, ◌^◌, ◌↔◌, ℕ, true, All, List, Some, Contains, flat_map, length};
+ghost use Rattle.paxos_base.specs.declared.rows.TableSize.{TableSize};
 ghost use Rattle.paxos_base.specs.Ballot.{round_of};
 ghost use Rattle.paxos_base.specs.Members.{HasMember};
 ghost use Rattle.paxos_base.specs.Rows.{OpenHaveCursors, RowsStand};
@@ -52,12 +53,12 @@ pub fn a_step_sends_one_snapshot_at_most()
 /// Rows that are heard of a letter are those of the table of jobs: one for each job, in their order, of which each that is open
 /// has a cursor, with counts within the bounds that a replica counts with.
 pub fn rows_that_are_heard_stand()
-    ensures stand { (members jobs : ℕ) (bytes : List ℕ) (from slot : ℕ) (messages : List Message) (rows : List JobRow)
-        → IsHeardAs members jobs bytes from messages → Contains messages (Snap slot rows) → RowsStand rows jobs }
-    ensures cursors { (members jobs : ℕ) (bytes : List ℕ) (from slot : ℕ) (messages : List Message) (rows : List JobRow)
-        → IsHeardAs members jobs bytes from messages → Contains messages (Snap slot rows) → OpenHaveCursors rows }
-    ensures counts { (members jobs : ℕ) (bytes : List ℕ) (from slot : ℕ) (messages : List Message) (rows : List JobRow)
-        → IsHeardAs members jobs bytes from messages → Contains messages (Snap slot rows) → All (λ row. (row.launched < 2 ^ 31) × (row.voided < 2 ^ 31)) rows }
+    ensures stand { (members : ℕ) (size : TableSize) (bytes : List ℕ) (from slot : ℕ) (messages : List Message) (rows : List JobRow)
+        → IsHeardAs members size bytes from messages → Contains messages (Snap slot rows) → RowsStand rows size }
+    ensures cursors { (members : ℕ) (size : TableSize) (bytes : List ℕ) (from slot : ℕ) (messages : List Message) (rows : List JobRow)
+        → IsHeardAs members size bytes from messages → Contains messages (Snap slot rows) → OpenHaveCursors rows }
+    ensures counts { (members : ℕ) (size : TableSize) (bytes : List ℕ) (from slot : ℕ) (messages : List Message) (rows : List JobRow)
+        → IsHeardAs members size bytes from messages → Contains messages (Snap slot rows) → All (λ row. (row.launched < 2 ^ 31) × (row.voided < 2 ^ 31)) rows }
 {}
 
 /// What is spelled in packets is heard as it was meant: each message as itself, and with a promise a mention of its ballot
@@ -102,9 +103,9 @@ pub fn a_candidate_begins_with_its_own_votes()
 /// What is heard of a letter names no ballot and no slot beyond the bounds that a replica counts with, and a letter within them
 /// is heard whole.
 pub fn letters_are_heard_within_bounds()
-    ensures ballot { (jobs : ℕ) (packets : List Packet) (message : Message) → Contains (heard_in jobs packets) message
+    ensures ballot { (size : TableSize) (packets : List Packet) (message : Message) → Contains (heard_in size packets) message
         → round_of (ballot_in message) < 2 ^ 59 }
-    ensures slot { (jobs : ℕ) (packets : List Packet) (message : Message) → Contains (heard_in jobs packets) message
+    ensures slot { (size : TableSize) (packets : List Packet) (message : Message) → Contains (heard_in size packets) message
         → slot_in message < 2 ^ 62 }
-    ensures whole { (jobs : ℕ) (packets : List Packet) → is_small_letter jobs packets ≡ true → heard_in jobs packets ≡ messages_of packets }
+    ensures whole { (size : TableSize) (packets : List Packet) → is_small_letter size packets ≡ true → heard_in size packets ≡ messages_of packets }
 {}

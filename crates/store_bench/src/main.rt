@@ -9,11 +9,15 @@ mod votes;
 use crate::fault::BenchFault;
 use crate::votes::save_votes;
 use disk_model::MemDisk;
+use paxos_base::TableSize;
 use replica_store::Store;
 use std::time::{CpuClock, Duration};
 
-// How many jobs the replica's table has.
-const JOBS: u32 = 1;
+// How large the replica's table is.
+const SIZE: TableSize = TableSize {
+    jobs: 1,
+    last_version: 0,
+};
 
 // How many votes are saved.
 const VOTES: u32 = 100_000;
@@ -22,12 +26,12 @@ fn main(rt: HostRuntime) -> Result<(), BenchFault> {
     let alloc = rt.alloc();
     let mut disk = MemDisk::new(alloc, Vec::new(alloc));
     let start = rt.thread_cpu_time()?;
-    save_votes(alloc, &mut disk, JOBS, VOTES)?;
+    save_votes(alloc, &mut disk, SIZE, VOTES)?;
     let took = rt.thread_cpu_time()?.saturating_sub(start);
     println!(rt; "{VOTES} votes saved")?;
     tell(&rt, "saving", took)?;
     let start = rt.thread_cpu_time()?;
-    let (_, kept) = Store::attach(alloc, &mut disk, JOBS)?;
+    let (_, kept) = Store::attach(alloc, &mut disk, SIZE)?;
     let took = rt.thread_cpu_time()?.saturating_sub(start);
     let found = kept.votes.items.len();
     println!(rt; "{found} votes found")?;

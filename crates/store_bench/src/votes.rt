@@ -1,6 +1,6 @@
 use crate::fault::BenchFault;
 use disk_model::MemDisk;
-use paxos_base::{Ballot, Delta, Entry, Vote};
+use paxos_base::{Ballot, Delta, Entry, TableSize, Vote};
 use replica_store::Store;
 use std::alloc::Global;
 
@@ -8,10 +8,10 @@ use std::alloc::Global;
 pub fn save_votes(
     alloc: Global,
     disk: &mut MemDisk,
-    jobs: u32,
+    size: TableSize,
     votes: u32,
 ) -> Result<(), BenchFault> {
-    let (mut store, kept) = Store::attach(alloc, disk, jobs)?;
+    let (mut store, kept) = Store::attach(alloc, disk, size)?;
     let base = kept.base;
     let ballot = kept.promised.unwrap_or(Ballot::of(1, 0));
     for slot in base..base.saturating_add(u64::from(votes)) {

@@ -4,6 +4,7 @@ use Rattle.std.specs.Prelude.{All, Contains, IfSome, if◌then◌else◌}
 use Rattle.std.proofs.lemmas.Bool.{lt-ltb, le-ltb, cases_lt}
 use Rattle.std.proofs.lemmas.List.{append-nil}
 use Rattle.std.proofs.lemmas.List.Elements.{All-nil, All-cons, All-head, All-tail, Contains-append_left, Contains-append_right, Contains-push}
+use Rattle.paxos_base.specs.declared.rows.TableSize.{TableSize}
 use Rattle.paxos_base.specs.declared.durable.Delta.TheVariants.{Base as BaseDelta}
 use Rattle.paxos_base.specs.declared.durable.Durable.{Durable}
 use Rattle.paxos_base.specs.declared.entry.Vote.{Vote}
@@ -84,8 +85,8 @@ unfolding after_delta
 after_base kept own slot rows round =
     ap (λ (tried : ℕ). record kept { tried = tried; votes = votes_from slot kept.votes; base = slot; rows = rows }) (sym round)
 
-pub base_stands : (jobs : ℕ) (kept : Durable) (own : Option ℕ) (slot : ℕ) (rows : List JobRow) → IsKeptSound kept own → RowsStand rows jobs → Stands jobs (base_records kept own slot rows) (after_delta (BaseDelta slot rows) kept)
-base_stands jobs kept own slot rows sound stand =
+pub base_stands : (size : TableSize) (kept : Durable) (own : Option ℕ) (slot : ℕ) (rows : List JobRow) → IsKeptSound kept own → RowsStand rows size → Stands size (base_records kept own slot rows) (after_delta (BaseDelta slot rows) kept)
+base_stands size kept own slot rows sound stand =
     let copy : Copy = written kept own slot in
     let votes_are : All (λ (vote : Vote). IsWithinPromise kept.promised vote.ballot) (votes_from slot kept.votes) = all_kept (λ (vote : Vote). IsWithinPromise kept.promised vote.ballot) slot kept.votes sound.votes_promised in
     inr (record {
@@ -99,14 +100,14 @@ base_stands jobs kept own slot rows sound stand =
       is_copy = written-IsCopy kept own slot sound.votes_rise;
       longest = longest_alone slot copy;
       greatest = subst (IsGreatest kept.promised) (sym (copy_ballots own (promise_above own kept.promised) (votes_from slot kept.votes))) (greatest_of own kept.promised (votes_from slot kept.votes) sound.own_promised votes_are);
-      is_log = subst (IsChangeLog jobs (after_copy slot rows copy kept.promised) []) (after_base kept own slot rows sound.round) (IsChangeLog-nil jobs (after_copy slot rows copy kept.promised));
+      is_log = subst (IsChangeLog size (after_copy slot rows copy kept.promised) []) (after_base kept own slot rows sound.round) (IsChangeLog-nil size (after_copy slot rows copy kept.promised));
     })
 
 pub base_own_ballot : (kept : Durable) (own : Option ℕ) (slot : ℕ) (rows : List JobRow) → own ≡ own_ballot (base_records kept own slot rows)
 base_own_ballot kept own slot rows =
     sym (ap (λ (behind : List Record). own_ballot (group_of slot rows ++ behind)) (sym (append-nil (copy_records (written kept own slot)))) ∙ base_own slot rows (written kept own slot) [])
 
-pub base_stand_for : (jobs : ℕ) (bodies : List (List ℕ)) (kept : Durable) (own : Option ℕ) (slot : ℕ) (rows : List JobRow) → AreRecords bodies (base_records kept own slot rows) → IsKeptSound kept own → RowsStand rows jobs
-    → StandFor jobs bodies (after_delta (BaseDelta slot rows) kept) own
-base_stand_for jobs bodies kept own slot rows are sound stand =
-    record { items = base_records kept own slot rows; are_records = are; stands = base_stands jobs kept own slot rows sound stand; own_is = base_own_ballot kept own slot rows }
+pub base_stand_for : (size : TableSize) (bodies : List (List ℕ)) (kept : Durable) (own : Option ℕ) (slot : ℕ) (rows : List JobRow) → AreRecords bodies (base_records kept own slot rows) → IsKeptSound kept own → RowsStand rows size
+    → StandFor size bodies (after_delta (BaseDelta slot rows) kept) own
+base_stand_for size bodies kept own slot rows are sound stand =
+    record { items = base_records kept own slot rows; are_records = are; stands = base_stands size kept own slot rows sound stand; own_is = base_own_ballot kept own slot rows }

@@ -6,8 +6,10 @@ use Rattle.std.proofs.lemmas.Bool.{cases_order}
 use Rattle.std.proofs.lemmas.List.{append-nil, take-append-drop, take-take, take_all}
 use Rattle.std.proofs.lemmas.List.Elements.{filter_map-append}
 use Rattle.std.proofs.lemmas.Option.{none-some, same_Some}
+use Rattle.paxos_base.specs.declared.rows.TableSize.{TableSize}
 use Rattle.paxos_base.specs.declared.durable.Durable.{Durable}
 use Rattle.paxos_base.specs.declared.rows.JobRow.{JobRow}
+use Rattle.paxos_base.specs.Rows.{row_count}
 use Rattle.store_format.specs.declared.body.Record.{Record}
 use Rattle.store_format.specs.declared.body.Record.TheVariants.{Tried, Promised, Voted, Base, Row}
 use Rattle.store_format.specs.declared.place.Place.{Place}
@@ -79,110 +81,110 @@ own_ballot-push items item = own_ballot-append items (item ∷ []) ∙ last_of_o
 
 -- ---- a reader behind bodies
 
-pub record Behind (jobs : ℕ) (bodies : List (List ℕ)) (place : Place) (kept : Durable) (own : Option ℕ) : Type 0 where
+pub record Behind (size : TableSize) (bodies : List (List ℕ)) (place : Place) (kept : Durable) (own : Option ℕ) : Type 0 where
   pub items : List Record
   pub are : AreRecords bodies items
-  pub runs : run jobs (first jobs) items ≡ Some (reading place kept)
+  pub runs : run size (first size) items ≡ Some (reading place kept)
   pub own_is : own ≡ own_ballot items
 
-pub Behind-none : (jobs : ℕ) → Behind jobs [] Start (fresh_kept jobs) None
-Behind-none jobs = record { items = []; are = tt; runs = refl; own_is = refl }
+pub Behind-none : (size : TableSize) → Behind size [] Start (fresh_kept size) None
+Behind-none size = record { items = []; are = tt; runs = refl; own_is = refl }
 
-pub Behind-next : (jobs : ℕ) (bodies : List (List ℕ)) (place next : Place) (kept : Durable) (own : Option ℕ) (body : List ℕ) (item : Record) → Behind jobs bodies place kept own → IsRecord body item → next_place jobs place kept item ≡ Some next
-    → Behind jobs (bodies ++ body ∷ []) next (taken item kept) (option_or (tried_in item) own)
-Behind-next jobs bodies place next kept own body item behind is at =
+pub Behind-next : (size : TableSize) (bodies : List (List ℕ)) (place next : Place) (kept : Durable) (own : Option ℕ) (body : List ℕ) (item : Record) → Behind size bodies place kept own → IsRecord body item → next_place size place kept item ≡ Some next
+    → Behind size (bodies ++ body ∷ []) next (taken item kept) (option_or (tried_in item) own)
+Behind-next size bodies place next kept own body item behind is at =
     record {
       items = behind.items ++ item ∷ [];
       are = AreRecords-append bodies (body ∷ []) behind.items (item ∷ []) behind.are (is, tt);
-      runs = runs_on jobs (first jobs) (reading place kept) (reading next (taken item kept)) behind.items (item ∷ []) behind.runs (runs_from jobs place next kept item [] at);
+      runs = runs_on size (first size) (reading place kept) (reading next (taken item kept)) behind.items (item ∷ []) behind.runs (runs_from size place next kept item [] at);
       own_is = ap (option_or (tried_in item)) behind.own_is ∙ sym (own_ballot-push behind.items item);
     }
 
-pub Behind-stand : (jobs : ℕ) (bodies : List (List ℕ)) (place : Place) (kept : Durable) (own : Option ℕ) → Behind jobs bodies place kept own → (place ≡ Rows → ⊥) → StandFor jobs bodies kept own
-Behind-stand jobs bodies place kept own behind not_rows =
-    record { items = behind.items; are_records = behind.are; stands = runs-Stands jobs behind.items (reading place kept) not_rows behind.runs; own_is = behind.own_is }
+pub Behind-stand : (size : TableSize) (bodies : List (List ℕ)) (place : Place) (kept : Durable) (own : Option ℕ) → Behind size bodies place kept own → (place ≡ Rows → ⊥) → StandFor size bodies kept own
+Behind-stand size bodies place kept own behind not_rows =
+    record { items = behind.items; are_records = behind.are; stands = runs-Stands size behind.items (reading place kept) not_rows behind.runs; own_is = behind.own_is }
 
 -- the reader of bodies that stand for a state has come to it
-pub Behind-is : (jobs : ℕ) (bodies : List (List ℕ)) (place : Place) (kept other : Durable) (own others : Option ℕ) → Behind jobs bodies place kept own → StandFor jobs bodies other others → (kept ≡ other) × (own ≡ others) × (place ≡ Rows → ⊥)
-Behind-is jobs bodies place kept other own others behind stand =
+pub Behind-is : (size : TableSize) (bodies : List (List ℕ)) (place : Place) (kept other : Durable) (own others : Option ℕ) → Behind size bodies place kept own → StandFor size bodies other others → (kept ≡ other) × (own ≡ others) × (place ≡ Rows → ⊥)
+Behind-is size bodies place kept other own others behind stand =
     let same_items : stand.items ≡ behind.items = AreRecords-same bodies stand.items behind.items stand.are_records behind.are in
-    let reads = Stands-reads jobs stand.items other stand.stands in
+    let reads = Stands-reads size stand.items other stand.stands in
     let same : reading place kept ≡ reading reads.place other =
-    same_Some (reading place kept) (reading reads.place other) (sym behind.runs ∙ ap (run jobs (first jobs)) (sym same_items) ∙ reads.runs) in (
+    same_Some (reading place kept) (reading reads.place other) (sym behind.runs ∙ ap (run size (first size)) (sym same_items) ∙ reads.runs) in (
       ap (λ (s : Reading). s.kept) same,
       behind.own_is ∙ ap own_ballot (sym same_items) ∙ sym stand.own_is,
       λ is_rows. reads.not_rows (ap (λ (s : Reading). s.place) (sym same) ∙ is_rows),
     )
 
 -- bodies stand for one state at most
-pub StandFor-same : (jobs : ℕ) (bodies : List (List ℕ)) (kept other : Durable) (own others : Option ℕ) → StandFor jobs bodies kept own → StandFor jobs bodies other others → (kept ≡ other) × (own ≡ others)
-StandFor-same jobs bodies kept other own others a b =
-    let reads = Stands-reads jobs a.items kept a.stands in
-    let is = Behind-is jobs bodies reads.place kept other own others (record { items = a.items; are = a.are_records; runs = reads.runs; own_is = a.own_is }) b in
+pub StandFor-same : (size : TableSize) (bodies : List (List ℕ)) (kept other : Durable) (own others : Option ℕ) → StandFor size bodies kept own → StandFor size bodies other others → (kept ≡ other) × (own ≡ others)
+StandFor-same size bodies kept other own others a b =
+    let reads = Stands-reads size a.items kept a.stands in
+    let is = Behind-is size bodies reads.place kept other own others (record { items = a.items; are = a.are_records; runs = reads.runs; own_is = a.own_is }) b in
     (is.0, is.1)
 
 -- ---- bodies that may yet stand
 
-pub BodiesMayStand-front : (jobs : ℕ) (bodies others : List (List ℕ)) → BodiesMayStand jobs (bodies ++ others) → BodiesMayStand jobs bodies
-BodiesMayStand-front jobs bodies others may =
+pub BodiesMayStand-front : (size : TableSize) (bodies others : List (List ℕ)) → BodiesMayStand size (bodies ++ others) → BodiesMayStand size bodies
+BodiesMayStand-front size bodies others may =
     record {
       rest = others ++ may.rest;
       kept = may.kept;
       own = may.own;
-      stand = subst (λ (all : List (List ℕ)). StandFor jobs all may.kept may.own) (append_assoc bodies others may.rest) may.stand;
+      stand = subst (λ (all : List (List ℕ)). StandFor size all may.kept may.own) (append_assoc bodies others may.rest) may.stand;
     }
 
-stand_may : (jobs : ℕ) (bodies : List (List ℕ)) (kept : Durable) (own : Option ℕ) → StandFor jobs bodies kept own → BodiesMayStand jobs bodies
-stand_may jobs bodies kept own stand =
-    record { rest = []; kept = kept; own = own; stand = subst (λ (all : List (List ℕ)). StandFor jobs all kept own) (sym (append-nil bodies)) stand }
+stand_may : (size : TableSize) (bodies : List (List ℕ)) (kept : Durable) (own : Option ℕ) → StandFor size bodies kept own → BodiesMayStand size bodies
+stand_may size bodies kept own stand =
+    record { rest = []; kept = kept; own = own; stand = subst (λ (all : List (List ℕ)). StandFor size all kept own) (sym (append-nil bodies)) stand }
 
 base_fits : (bodies : List (List ℕ)) (slot count : ℕ) (rest : List Record) → AreRecords bodies (Base slot count ∷ rest) → slot < 2 ^ 64
 base_fits [] slot count rest are = absurd are
 base_fits (body ∷ bodies) slot count rest are = are.0.packet.fits.slot
 
-open_may : (jobs : ℕ) (bodies : List (List ℕ)) (kept : Durable) (own : Option ℕ) → jobs < 2 ^ 32 → Behind jobs bodies Rows kept own → BodiesMayStand jobs bodies
-open_may jobs bodies kept own few behind =
-    let open_at = begun jobs behind.items (reading Rows kept) behind.runs refl in
+open_may : (size : TableSize) (bodies : List (List ℕ)) (kept : Durable) (own : Option ℕ) → size.jobs < 2 ^ 32 → Behind size bodies Rows kept own → BodiesMayStand size bodies
+open_may size bodies kept own few behind =
+    let open_at = begun size behind.items (reading Rows kept) behind.runs refl in
     let slot : ℕ = open_at.slot in
     let rows : List JobRow = open_at.group.rows in
-    let more : List Record = rows_of slot (missing (length rows) (jobs - length rows)) in
-    let filled : Durable = with_rows slot (rows ++ missing (length rows) (jobs - length rows)) in
+    let more : List Record = rows_of slot (missing (length rows) (row_count size - length rows)) in
+    let filled : Durable = with_rows slot (rows ++ missing (length rows) (row_count size - length rows)) in
     let fits : slot < 2 ^ 64 = base_fits bodies slot open_at.count open_at.rest (subst (AreRecords bodies) open_at.is behind.are) in
-    let runs : run jobs (first jobs) (behind.items ++ more) ≡ Some (reading CopyStart filled) =
-    runs_on jobs (first jobs) (reading Rows kept) (reading CopyStart filled) behind.items more behind.runs (group_filled jobs slot (reading Rows kept) open_at.group) in
+    let runs : run size (first size) (behind.items ++ more) ≡ Some (reading CopyStart filled) =
+    runs_on size (first size) (reading Rows kept) (reading CopyStart filled) behind.items more behind.runs (group_filled size slot (reading Rows kept) open_at.group) in
     record {
       rest = map record_bytes more;
       kept = filled;
       own = own_ballot (behind.items ++ more);
       stand = record {
         items = behind.items ++ more;
-        are_records = AreRecords-append bodies (map record_bytes more) behind.items more behind.are (missing_records slot (length rows) (jobs - length rows) jobs fits (omega (arith, open_at.group.few)) few);
-        stands = runs-Stands jobs (behind.items ++ more) (reading CopyStart filled) (λ same. cc same) runs;
+        are_records = AreRecords-append bodies (map record_bytes more) behind.items more behind.are (missing_records slot (length rows) (row_count size - length rows) size fits (omega (arith, open_at.group.few)) few);
+        stands = runs-Stands size (behind.items ++ more) (reading CopyStart filled) (λ same. cc same) runs;
         own_is = refl;
       };
     }
 
 -- what a reader went over may yet stand for a state
-pub Behind-may : (jobs : ℕ) (bodies : List (List ℕ)) (place : Place) (kept : Durable) (own : Option ℕ) → jobs < 2 ^ 32 → Behind jobs bodies place kept own → BodiesMayStand jobs bodies
-Behind-may jobs bodies Start kept own few behind = stand_may jobs bodies kept own (Behind-stand jobs bodies Start kept own behind (λ same. cc same))
-Behind-may jobs bodies Rows kept own few behind = open_may jobs bodies kept own few behind
-Behind-may jobs bodies CopyStart kept own few behind = stand_may jobs bodies kept own (Behind-stand jobs bodies CopyStart kept own behind (λ same. cc same))
-Behind-may jobs bodies CopyTried kept own few behind = stand_may jobs bodies kept own (Behind-stand jobs bodies CopyTried kept own behind (λ same. cc same))
-Behind-may jobs bodies CopyPromised kept own few behind = stand_may jobs bodies kept own (Behind-stand jobs bodies CopyPromised kept own behind (λ same. cc same))
-Behind-may jobs bodies CopyVotes kept own few behind = stand_may jobs bodies kept own (Behind-stand jobs bodies CopyVotes kept own behind (λ same. cc same))
-Behind-may jobs bodies Log kept own few behind = stand_may jobs bodies kept own (Behind-stand jobs bodies Log kept own behind (λ same. cc same))
+pub Behind-may : (size : TableSize) (bodies : List (List ℕ)) (place : Place) (kept : Durable) (own : Option ℕ) → size.jobs < 2 ^ 32 → Behind size bodies place kept own → BodiesMayStand size bodies
+Behind-may size bodies Start kept own few behind = stand_may size bodies kept own (Behind-stand size bodies Start kept own behind (λ same. cc same))
+Behind-may size bodies Rows kept own few behind = open_may size bodies kept own few behind
+Behind-may size bodies CopyStart kept own few behind = stand_may size bodies kept own (Behind-stand size bodies CopyStart kept own behind (λ same. cc same))
+Behind-may size bodies CopyTried kept own few behind = stand_may size bodies kept own (Behind-stand size bodies CopyTried kept own behind (λ same. cc same))
+Behind-may size bodies CopyPromised kept own few behind = stand_may size bodies kept own (Behind-stand size bodies CopyPromised kept own behind (λ same. cc same))
+Behind-may size bodies CopyVotes kept own few behind = stand_may size bodies kept own (Behind-stand size bodies CopyVotes kept own behind (λ same. cc same))
+Behind-may size bodies Log kept own few behind = stand_may size bodies kept own (Behind-stand size bodies Log kept own behind (λ same. cc same))
 
 -- the reader goes on with no record that the body is of
-abbrev pub IsRefused : ℕ → Place → Durable → List ℕ → Type 0
-IsRefused jobs place kept body = (item : Record) → IsRecord body item → next_place jobs place kept item ≡ None
+abbrev pub IsRefused : TableSize → Place → Durable → List ℕ → Type 0
+IsRefused size place kept body = (item : Record) → IsRecord body item → next_place size place kept item ≡ None
 
 one_record : (body : List ℕ) (items : List Record) → AreRecords (body ∷ []) items → (item : Record) × (items ≡ item ∷ []) × IsRecord body item
 one_record body [] are = absurd are
 one_record body (item ∷ []) are = (item, refl, are.0)
 one_record body (item ∷ other ∷ items) are = absurd are.1
 
-pub refused : (jobs : ℕ) (bodies : List (List ℕ)) (place : Place) (kept : Durable) (own : Option ℕ) (body : List ℕ) → Behind jobs bodies place kept own → IsRefused jobs place kept body → BodiesMayStand jobs (bodies ++ body ∷ []) → ⊥
-refused jobs bodies place kept own body behind is_refused may =
+pub refused : (size : TableSize) (bodies : List (List ℕ)) (place : Place) (kept : Durable) (own : Option ℕ) (body : List ℕ) → Behind size bodies place kept own → IsRefused size place kept body → BodiesMayStand size (bodies ++ body ∷ []) → ⊥
+refused size bodies place kept own body behind is_refused may =
     let whole = may.stand in
     let split = AreRecords-split (bodies ++ body ∷ []) may.rest whole.items whole.are_records in
     let inner = AreRecords-split bodies (body ∷ []) split.front split.are_front in
@@ -190,64 +192,64 @@ refused jobs bodies place kept own body behind is_refused may =
     let same : inner.front ≡ behind.items = AreRecords-same bodies inner.front behind.items inner.are_front behind.are in
     let parts : whole.items ≡ behind.items ++ (one.0 ∷ split.back) =
     split.parts ∙ ap (λ (f : List Record). f ++ split.back) (inner.parts ∙ ap (λ (b : List Record). inner.front ++ b) one.1 ∙ ap (λ (f : List Record). f ++ one.0 ∷ []) same) ∙ append_assoc behind.items (one.0 ∷ []) split.back in
-    let reads = Stands-reads jobs whole.items may.kept whole.stands in
+    let reads = Stands-reads size whole.items may.kept whole.stands in
     let last : Reading = reading reads.place may.kept in
-    let run_all : run jobs (first jobs) (behind.items ++ (one.0 ∷ split.back)) ≡ Some last = ap (run jobs (first jobs)) (sym parts) ∙ reads.runs in
-    let two = run_parts jobs (first jobs) last behind.items (one.0 ∷ split.back) run_all in
+    let run_all : run size (first size) (behind.items ++ (one.0 ∷ split.back)) ≡ Some last = ap (run size (first size)) (sym parts) ∙ reads.runs in
+    let two = run_parts size (first size) last behind.items (one.0 ∷ split.back) run_all in
     let middle : reading place kept ≡ two.middle = same_Some (reading place kept) two.middle (sym behind.runs ∙ two.first) in
-    let on : run jobs (reading place kept) (one.0 ∷ split.back) ≡ Some last = ap (λ (s : Reading). run jobs s (one.0 ∷ split.back)) middle ∙ two.second in
-    let step = run_steps jobs place kept one.0 split.back last on in
+    let on : run size (reading place kept) (one.0 ∷ split.back) ≡ Some last = ap (λ (s : Reading). run size s (one.0 ∷ split.back)) middle ∙ two.second in
+    let step = run_steps size place kept one.0 split.back last on in
     none-some step.next (sym (is_refused one.0 one.2) ∙ step.at)
 
 -- ---- the first fault
 
-earlier_may : (jobs : ℕ) (bodies : List (List ℕ)) (k j : ℕ) → j < k → k ≤ length bodies → BodiesMayStand jobs (take k bodies) → BodiesMayStand jobs (take (j + 1) bodies)
-earlier_may jobs bodies k j before within may =
+earlier_may : (size : TableSize) (bodies : List (List ℕ)) (k j : ℕ) → j < k → k ≤ length bodies → BodiesMayStand size (take k bodies) → BodiesMayStand size (take (j + 1) bodies)
+earlier_may size bodies k j before within may =
     let shorter : take (j + 1) (take k bodies) ≡ take (j + 1) bodies = take-take (j + 1) k bodies (omega (arith, before)) in
     let parts : take (j + 1) bodies ++ drop (j + 1) (take k bodies) ≡ take k bodies =
     ap (λ (f : List (List ℕ)). f ++ drop (j + 1) (take k bodies)) (sym shorter) ∙ take-append-drop (j + 1) (take k bodies) in
-    BodiesMayStand-front jobs (take (j + 1) bodies) (drop (j + 1) (take k bodies)) (subst (BodiesMayStand jobs) (sym parts) may)
+    BodiesMayStand-front size (take (j + 1) bodies) (drop (j + 1) (take k bodies)) (subst (BodiesMayStand size) (sym parts) may)
 
-stand_front : (jobs : ℕ) (bodies : List (List ℕ)) (k : ℕ) (kept : Durable) (own : Option ℕ) → StandFor jobs bodies kept own → BodiesMayStand jobs (take k bodies)
-stand_front jobs bodies k kept own stand =
-    BodiesMayStand-front jobs (take k bodies) (drop k bodies) (stand_may jobs (take k bodies ++ drop k bodies) kept own (subst (λ (all : List (List ℕ)). StandFor jobs all kept own) (sym (take-append-drop k bodies)) stand))
+stand_front : (size : TableSize) (bodies : List (List ℕ)) (k : ℕ) (kept : Durable) (own : Option ℕ) → StandFor size bodies kept own → BodiesMayStand size (take k bodies)
+stand_front size bodies k kept own stand =
+    BodiesMayStand-front size (take k bodies) (drop k bodies) (stand_may size (take k bodies ++ drop k bodies) kept own (subst (λ (all : List (List ℕ)). StandFor size all kept own) (sym (take-append-drop k bodies)) stand))
 
 -- at a body that the reader goes no further with
-pub fault_here : (jobs : ℕ) (bodies : List (List ℕ)) (k : ℕ) (place : Place) (kept : Durable) (own : Option ℕ) (body : List ℕ) → jobs < 2 ^ 32 → k < length bodies → take (k + 1) bodies ≡ take k bodies ++ body ∷ []
-    → Behind jobs (take k bodies) place kept own → IsRefused jobs place kept body → IsFirstRecordAtFault jobs bodies k
-fault_here jobs bodies k place kept own body few within more behind is_refused =
-    let none : BodiesMayStand jobs (take (k + 1) bodies) → ⊥ = λ may. refused jobs (take k bodies) place kept own body behind is_refused (subst (BodiesMayStand jobs) more may) in
+pub fault_here : (size : TableSize) (bodies : List (List ℕ)) (k : ℕ) (place : Place) (kept : Durable) (own : Option ℕ) (body : List ℕ) → size.jobs < 2 ^ 32 → k < length bodies → take (k + 1) bodies ≡ take k bodies ++ body ∷ []
+    → Behind size (take k bodies) place kept own → IsRefused size place kept body → IsFirstRecordAtFault size bodies k
+fault_here size bodies k place kept own body few within more behind is_refused =
+    let none : BodiesMayStand size (take (k + 1) bodies) → ⊥ = λ may. refused size (take k bodies) place kept own body behind is_refused (subst (BodiesMayStand size) more may) in
     record {
       within = omega (arith, within);
-      earlier = λ j before. earlier_may jobs bodies k j before (omega (arith, within)) (Behind-may jobs (take k bodies) place kept own few behind);
+      earlier = λ j before. earlier_may size bodies k j before (omega (arith, within)) (Behind-may size (take k bodies) place kept own few behind);
       here = λ short may. none may;
-      for_none = λ other others stand. none (stand_front jobs bodies (k + 1) other others stand);
+      for_none = λ other others stand. none (stand_front size bodies (k + 1) other others stand);
     }
 
 -- at the end, in the middle of a group
-pub fault_at_end : (jobs : ℕ) (bodies : List (List ℕ)) (k : ℕ) (kept : Durable) (own : Option ℕ) → jobs < 2 ^ 32 → k ≡ length bodies → Behind jobs bodies Rows kept own → IsFirstRecordAtFault jobs bodies k
-fault_at_end jobs bodies k kept own few at behind =
+pub fault_at_end : (size : TableSize) (bodies : List (List ℕ)) (k : ℕ) (kept : Durable) (own : Option ℕ) → size.jobs < 2 ^ 32 → k ≡ length bodies → Behind size bodies Rows kept own → IsFirstRecordAtFault size bodies k
+fault_at_end size bodies k kept own few at behind =
     let all : take k bodies ≡ bodies = take_all k bodies (omega (arith, at)) in
     record {
       within = omega (arith, at);
-      earlier = λ j before. earlier_may jobs bodies k j before (omega (arith, at)) (subst (BodiesMayStand jobs) (sym all) (Behind-may jobs bodies Rows kept own few behind));
+      earlier = λ j before. earlier_may size bodies k j before (omega (arith, at)) (subst (BodiesMayStand size) (sym all) (Behind-may size bodies Rows kept own few behind));
       here = λ short may. omega (arith, at, short);
-      for_none = λ other others stand. (Behind-is jobs bodies Rows kept other own others behind stand).2 refl;
+      for_none = λ other others stand. (Behind-is size bodies Rows kept other own others behind stand).2 refl;
     }
 
 -- behind all bodies
-pub broken_off : (jobs : ℕ) (bodies : List (List ℕ)) (k : ℕ) (place : Place) (kept : Durable) (own : Option ℕ) → jobs < 2 ^ 32 → length bodies ≤ k → Behind jobs (take k bodies) place kept own → place ≡ Rows → IsFirstRecordAtFault jobs bodies (length bodies)
-broken_off jobs bodies k place kept own few past behind is_rows =
-    fault_at_end jobs bodies (length bodies) kept own few refl
-    (subst (λ (p : Place). Behind jobs bodies p kept own) is_rows (subst (λ (all : List (List ℕ)). Behind jobs all place kept own) (take_all k bodies past) behind))
+pub broken_off : (size : TableSize) (bodies : List (List ℕ)) (k : ℕ) (place : Place) (kept : Durable) (own : Option ℕ) → size.jobs < 2 ^ 32 → length bodies ≤ k → Behind size (take k bodies) place kept own → place ≡ Rows → IsFirstRecordAtFault size bodies (length bodies)
+broken_off size bodies k place kept own few past behind is_rows =
+    fault_at_end size bodies (length bodies) kept own few refl
+    (subst (λ (p : Place). Behind size bodies p kept own) is_rows (subst (λ (all : List (List ℕ)). Behind size all place kept own) (take_all k bodies past) behind))
 
-pub all_read : (jobs : ℕ) (bodies : List (List ℕ)) (k : ℕ) (place : Place) (kept : Durable) (own : Option ℕ) → length bodies ≤ k → Behind jobs (take k bodies) place kept own → (place ≡ Rows → ⊥) → StandFor jobs bodies kept own
-all_read jobs bodies k place kept own past behind not_rows =
-    Behind-stand jobs bodies place kept own (subst (λ (all : List (List ℕ)). Behind jobs all place kept own) (take_all k bodies past) behind) not_rows
+pub all_read : (size : TableSize) (bodies : List (List ℕ)) (k : ℕ) (place : Place) (kept : Durable) (own : Option ℕ) → length bodies ≤ k → Behind size (take k bodies) place kept own → (place ≡ Rows → ⊥) → StandFor size bodies kept own
+all_read size bodies k place kept own past behind not_rows =
+    Behind-stand size bodies place kept own (subst (λ (all : List (List ℕ)). Behind size all place kept own) (take_all k bodies past) behind) not_rows
 
 -- there is one first fault at most
-pub IsFirstRecordAtFault-same : (jobs : ℕ) (bodies : List (List ℕ)) (j k : ℕ) → IsFirstRecordAtFault jobs bodies j → IsFirstRecordAtFault jobs bodies k → j ≡ k
-IsFirstRecordAtFault-same jobs bodies j k one other = elim (cases_order j k) [
+pub IsFirstRecordAtFault-same : (size : TableSize) (bodies : List (List ℕ)) (j k : ℕ) → IsFirstRecordAtFault size bodies j → IsFirstRecordAtFault size bodies k → j ≡ k
+IsFirstRecordAtFault-same size bodies j k one other = elim (cases_order j k) [
   | inl same ↦ same
   | inr apart ↦ elim apart [
     | inl before ↦ absurd (one.here (omega (arith, before, other.within)) (other.earlier j before))

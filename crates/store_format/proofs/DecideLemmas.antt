@@ -7,6 +7,7 @@ use Rattle.std.proofs.lemmas.Bool.{cases_lt, cases_eq, cases_Bool, false≢true}
 use Rattle.std.proofs.lemmas.Bool.Decides.{Decides-int_eq}
 use Rattle.std.proofs.lemmas.Int.{SFits-int_wrap, int_wrap_fits}
 use Rattle.std.proofs.lemmas.List.{append-nil, take_at, length-append}
+use Rattle.paxos_base.specs.declared.rows.TableSize.{TableSize}
 use Rattle.paxos_base.specs.declared.durable.Durable.{Durable}
 use Rattle.paxos_base.specs.declared.entry.Entry.{Entry}
 use Rattle.paxos_base.specs.declared.entry.Entry.TheVariants.{Noop, Start as StartEntry, End}
@@ -166,20 +167,20 @@ rows_decided CopyPromised = inr (λ same. cc same)
 rows_decided CopyVotes = inr (λ same. cc same)
 rows_decided Log = inr (λ same. cc same)
 
-abbrev Faulty : ℕ → List (List ℕ) → Type 0
-Faulty jobs bodies = (k : ℕ) × IsFirstRecordAtFault jobs bodies k
+abbrev Faulty : TableSize → List (List ℕ) → Type 0
+Faulty size bodies = (k : ℕ) × IsFirstRecordAtFault size bodies k
 
-abbrev StandForNone : ℕ → List (List ℕ) → Type 0
-StandForNone jobs bodies = (kept : Durable) (own : Option ℕ) → StandFor jobs bodies kept own → ⊥
+abbrev StandForNone : TableSize → List (List ℕ) → Type 0
+StandForNone size bodies = (kept : Durable) (own : Option ℕ) → StandFor size bodies kept own → ⊥
 
-at_end : (jobs : ℕ) (bodies : List (List ℕ)) (place : Place) (kept : Durable) (own : Option ℕ) → jobs < 2 ^ 32 → Behind jobs bodies place kept own → StandForNone jobs bodies → Faulty jobs bodies
-at_end jobs bodies place kept own few behind none = elim (rows_decided place) [
-  | inl is ↦ (length bodies, fault_at_end jobs bodies (length bodies) kept own few refl (subst (λ (p : Place). Behind jobs bodies p kept own) is behind))
-  | inr is_not ↦ absurd (none kept own (Behind-stand jobs bodies place kept own behind is_not))
+at_end : (size : TableSize) (bodies : List (List ℕ)) (place : Place) (kept : Durable) (own : Option ℕ) → size.jobs < 2 ^ 32 → Behind size bodies place kept own → StandForNone size bodies → Faulty size bodies
+at_end size bodies place kept own few behind none = elim (rows_decided place) [
+  | inl is ↦ (length bodies, fault_at_end size bodies (length bodies) kept own few refl (subst (λ (p : Place). Behind size bodies p kept own) is behind))
+  | inr is_not ↦ absurd (none kept own (Behind-stand size bodies place kept own behind is_not))
 ]
 
-at_body : (jobs : ℕ) (front : List (List ℕ)) (body : List ℕ) (bodies : List (List ℕ)) (place : Place) (kept : Durable) (own : Option ℕ) → jobs < 2 ^ 32 → Behind jobs front place kept own → IsRefused jobs place kept body → Faulty jobs (front ++ body ∷ bodies)
-at_body jobs front body bodies place kept own few behind is_refused =
+at_body : (size : TableSize) (front : List (List ℕ)) (body : List ℕ) (bodies : List (List ℕ)) (place : Place) (kept : Durable) (own : Option ℕ) → size.jobs < 2 ^ 32 → Behind size front place kept own → IsRefused size place kept body → Faulty size (front ++ body ∷ bodies)
+at_body size front body bodies place kept own few behind is_refused =
     let all : List (List ℕ) = front ++ body ∷ bodies in
     let whole : length all ≡ length front + length (body ∷ bodies) = length-append front (body ∷ bodies) in
     let first : take (length front) all ≡ front = take_at front (body ∷ bodies) (length front) refl in
@@ -187,22 +188,22 @@ at_body jobs front body bodies place kept own few behind is_refused =
     let parts : (front ++ body ∷ []) ++ bodies ≡ all = append_assoc front (body ∷ []) bodies in
     let more : take (length front + 1) all ≡ take (length front) all ++ body ∷ [] =
     ap (take (length front + 1)) (sym parts) ∙ take_at (front ++ body ∷ []) bodies (length front + 1) one ∙ ap (λ (f : List (List ℕ)). f ++ body ∷ []) (sym first) in
-    (length front, fault_here jobs all (length front) place kept own body few (omega (arith, whole)) more (subst (λ (f : List (List ℕ)). Behind jobs f place kept own) (sym first) behind) is_refused)
+    (length front, fault_here size all (length front) place kept own body few (omega (arith, whole)) more (subst (λ (f : List (List ℕ)). Behind size f place kept own) (sym first) behind) is_refused)
 
-fault_from : (jobs : ℕ) (front bodies : List (List ℕ)) (place : Place) (kept : Durable) (own : Option ℕ) → jobs < 2 ^ 32 → Behind jobs front place kept own → StandForNone jobs (front ++ bodies) → Faulty jobs (front ++ bodies)
-fault_from jobs front [] place kept own few behind none =
+fault_from : (size : TableSize) (front bodies : List (List ℕ)) (place : Place) (kept : Durable) (own : Option ℕ) → size.jobs < 2 ^ 32 → Behind size front place kept own → StandForNone size (front ++ bodies) → Faulty size (front ++ bodies)
+fault_from size front [] place kept own few behind none =
     let same : front ++ [] ≡ front = append-nil front in
-    subst (Faulty jobs) (sym same) (at_end jobs front place kept own few behind (subst (StandForNone jobs) same none))
-fault_from jobs front (body ∷ bodies) place kept own few behind none = elim (body_decided body) [
-  | inl (item, is) ↦ elim (option_cases (next_place jobs place kept item)) [
-    | inl refused ↦ at_body jobs front body bodies place kept own few behind (λ other is_other. ap (next_place jobs place kept) (IsRecord-same body other item is_other is) ∙ refused)
+    subst (Faulty size) (sym same) (at_end size front place kept own few behind (subst (StandForNone size) same none))
+fault_from size front (body ∷ bodies) place kept own few behind none = elim (body_decided body) [
+  | inl (item, is) ↦ elim (option_cases (next_place size place kept item)) [
+    | inl refused ↦ at_body size front body bodies place kept own few behind (λ other is_other. ap (next_place size place kept) (IsRecord-same body other item is_other is) ∙ refused)
     | inr (next, at) ↦
         let parts : (front ++ body ∷ []) ++ bodies ≡ front ++ body ∷ bodies = append_assoc front (body ∷ []) bodies in
-        subst (Faulty jobs) parts
-        (fault_from jobs (front ++ body ∷ []) bodies next (taken item kept) _ few (Behind-next jobs front place next kept own body item behind is at) (subst (StandForNone jobs) (sym parts) none))
+        subst (Faulty size) parts
+        (fault_from size (front ++ body ∷ []) bodies next (taken item kept) _ few (Behind-next size front place next kept own body item behind is at) (subst (StandForNone size) (sym parts) none))
   ]
-  | inr unread ↦ at_body jobs front body bodies place kept own few behind (λ item is. absurd (unread item is))
+  | inr unread ↦ at_body size front body bodies place kept own few behind (λ item is. absurd (unread item is))
 ]
 
-pub first_fault : (jobs : ℕ) (bodies : List (List ℕ)) → jobs < 2 ^ 32 → StandForNone jobs bodies → Faulty jobs bodies
-first_fault jobs bodies few none = fault_from jobs [] bodies Start (fresh_kept jobs) None few (Behind-none jobs) none
+pub first_fault : (size : TableSize) (bodies : List (List ℕ)) → size.jobs < 2 ^ 32 → StandForNone size bodies → Faulty size bodies
+first_fault size bodies few none = fault_from size [] bodies Start (fresh_kept size) None few (Behind-none size) none

@@ -4,6 +4,7 @@ use Rattle.std.specs.Prelude.{All, IfSome}
 use Rattle.std.specs.List.{filter_map, last_or}
 use Rattle.std.proofs.lemmas.List.Elements.{All-nil, All-cons, All-head, All-tail, All-append, All-weaker, All-filter, filter_map-append}
 use Rattle.std.proofs.lemmas.Option.{none-some, same_Some}
+use Rattle.paxos_base.specs.declared.rows.TableSize.{TableSize}
 use Rattle.paxos_base.specs.declared.durable.Delta.{Delta}
 use Rattle.paxos_base.specs.declared.durable.Delta.TheVariants.{Tried as TriedDelta, Promised as PromisedDelta, Voted as VotedDelta, Base as BaseDelta}
 use Rattle.paxos_base.specs.declared.durable.Durable.{Durable}
@@ -51,9 +52,9 @@ pub all_kept : (P : Vote → Type 0) (slot : ℕ) (votes : List Vote) → All P 
 unfolding votes_from
 all_kept P slot votes all = All-filter _ P votes all
 
-pub IsKeptSound-change : (jobs : ℕ) (kept : Durable) (own : Option ℕ) (change : Delta) → IsKeptSound kept own → ChangeMayFollow jobs kept change → IsKeptSound (after_delta change kept) (own_after change own)
+pub IsKeptSound-change : (size : TableSize) (kept : Durable) (own : Option ℕ) (change : Delta) → IsKeptSound kept own → ChangeMayFollow size kept change → IsKeptSound (after_delta change kept) (own_after change own)
 unfolding after_delta
-IsKeptSound-change jobs kept own (TriedDelta ballot) sound may =
+IsKeptSound-change size kept own (TriedDelta ballot) sound may =
     let promised : IsWithinPromise (Some ballot) ballot = omega arith in
     record {
       round = refl;
@@ -62,7 +63,7 @@ IsKeptSound-change jobs kept own (TriedDelta ballot) sound may =
       votes_rise = sound.votes_rise;
       votes_from_base = sound.votes_from_base;
     }
-IsKeptSound-change jobs kept own (PromisedDelta ballot) sound may =
+IsKeptSound-change size kept own (PromisedDelta ballot) sound may =
     record {
       round = sound.round;
       own_promised = own_on kept.promised own ballot (above_least kept.promised ballot may) sound.own_promised;
@@ -70,7 +71,7 @@ IsKeptSound-change jobs kept own (PromisedDelta ballot) sound may =
       votes_rise = sound.votes_rise;
       votes_from_base = sound.votes_from_base;
     }
-IsKeptSound-change jobs kept own (VotedDelta vote) sound may =
+IsKeptSound-change size kept own (VotedDelta vote) sound may =
     let here : IsWithinPromise (Some vote.ballot) vote.ballot = omega arith in
     record {
       round = sound.round;
@@ -79,7 +80,7 @@ IsKeptSound-change jobs kept own (VotedDelta vote) sound may =
       votes_rise = SlotsRise-put_vote vote kept.votes sound.votes_rise;
       votes_from_base = all_put (λ (v : Vote). kept.base ≤ v.slot) vote kept.votes may.1 sound.votes_from_base;
     }
-IsKeptSound-change jobs kept own (BaseDelta slot rows) sound may =
+IsKeptSound-change size kept own (BaseDelta slot rows) sound may =
     record {
       round = sound.round;
       own_promised = sound.own_promised;
@@ -103,15 +104,15 @@ own_of_change own (BaseDelta slot rows) item items is = absurd (none-some item i
 pub own_ballot-change : (items : List Record) (change : Delta) (item : Record) → delta_record change ≡ Some item → own_ballot (items ++ item ∷ []) ≡ own_after change (own_ballot items)
 own_ballot-change items change item is = own_ballot-append items (item ∷ []) ∙ own_of_change (own_ballot items) change item [] is
 
-IsKeptSound-log : (jobs : ℕ) (kept last : Durable) (own : Option ℕ) (items : List Record) → IsChangeLog jobs kept items last → IsKeptSound kept own → IsKeptSound last (last_or own (filter_map tried_in items))
-IsKeptSound-log jobs kept last own [] log sound = subst (λ (k : Durable). IsKeptSound k own) (sym (IsChangeLog-empty jobs kept last log)) sound
-IsKeptSound-log jobs kept last own (item ∷ items) log sound =
-    let parts = IsChangeLog-uncons jobs kept last item items log in
+IsKeptSound-log : (size : TableSize) (kept last : Durable) (own : Option ℕ) (items : List Record) → IsChangeLog size kept items last → IsKeptSound kept own → IsKeptSound last (last_or own (filter_map tried_in items))
+IsKeptSound-log size kept last own [] log sound = subst (λ (k : Durable). IsKeptSound k own) (sym (IsChangeLog-empty size kept last log)) sound
+IsKeptSound-log size kept last own (item ∷ items) log sound =
+    let parts = IsChangeLog-uncons size kept last item items log in
     subst (IsKeptSound last) (sym (own_of_change own parts.change item items parts.is_record))
-    (IsKeptSound-log jobs (after_delta parts.change kept) last (own_after parts.change own) items parts.rest (IsKeptSound-change jobs kept own parts.change sound parts.may_follow))
+    (IsKeptSound-log size (after_delta parts.change kept) last (own_after parts.change own) items parts.rest (IsKeptSound-change size kept own parts.change sound parts.may_follow))
 
-IsKeptSound-fresh : (jobs : ℕ) → IsKeptSound (fresh_kept jobs) None
-IsKeptSound-fresh jobs =
+IsKeptSound-fresh : (size : TableSize) → IsKeptSound (fresh_kept size) None
+IsKeptSound-fresh size =
     record {
       round = refl;
       own_promised = tt;
@@ -194,12 +195,12 @@ base_own slot rows copy log =
     ∙ last_or-append None (filter_map tried_in (copy_records copy)) (filter_map tried_in log)
     ∙ ap (λ (own : Option ℕ). last_or own (filter_map tried_in log)) (copy_own copy.tried copy.promised copy.votes)
 
-pub Stands-sound : (jobs : ℕ) (items : List Record) (kept : Durable) → Stands jobs items kept → IsKeptSound kept (own_ballot items)
-Stands-sound jobs items kept (inl log) = IsKeptSound-log jobs (fresh_kept jobs) kept None items log (IsKeptSound-fresh jobs)
-Stands-sound jobs items kept (inr base) =
+pub Stands-sound : (size : TableSize) (items : List Record) (kept : Durable) → Stands size items kept → IsKeptSound kept (own_ballot items)
+Stands-sound size items kept (inl log) = IsKeptSound-log size (fresh_kept size) kept None items log (IsKeptSound-fresh size)
+Stands-sound size items kept (inr base) =
     let own : own_ballot items ≡ last_or base.copy.tried (filter_map tried_in base.log) = ap own_ballot base.parts ∙ base_own base.slot base.rows base.copy base.log in
     subst (IsKeptSound kept) (sym own)
-    (IsKeptSound-log jobs (after_copy base.slot base.rows base.copy base.promised) kept base.copy.tried base.log base.is_log (IsKeptSound-copy base.slot base.rows base.copy base.promised base.is_copy base.greatest))
+    (IsKeptSound-log size (after_copy base.slot base.rows base.copy base.promised) kept base.copy.tried base.log base.is_log (IsKeptSound-copy base.slot base.rows base.copy base.promised base.is_copy base.greatest))
 
-pub StandFor-sound : (jobs : ℕ) (bodies : List (List ℕ)) (kept : Durable) (own : Option ℕ) → StandFor jobs bodies kept own → IsKeptSound kept own
-StandFor-sound jobs bodies kept own stand = subst (IsKeptSound kept) (sym stand.own_is) (Stands-sound jobs stand.items kept stand.stands)
+pub StandFor-sound : (size : TableSize) (bodies : List (List ℕ)) (kept : Durable) (own : Option ℕ) → StandFor size bodies kept own → IsKeptSound kept own
+StandFor-sound size bodies kept own stand = subst (IsKeptSound kept) (sym stand.own_is) (Stands-sound size stand.items kept stand.stands)

@@ -1,10 +1,11 @@
 -- What the records of an area stand for, and the first of them that is at fault. Source: docs/WIRE.md.
 use Rattle.std.specs.Prelude.{◌≡◌, ◌⊎◌, ℕ, ◌+◌, ◌<◌, ◌≤◌, nat_lt, if◌then◌else◌, Option, None, Some, List, [], ◌∷◌, ◌++◌, length, map, take, All, Contains, IfSome}
 use Rattle.std.specs.List.{filter_map}
+use Rattle.paxos_base.specs.declared.rows.TableSize.{TableSize}
 use Rattle.paxos_base.specs.declared.durable.Durable.{Durable}
 use Rattle.paxos_base.specs.declared.entry.Vote.{Vote}
 use Rattle.paxos_base.specs.declared.rows.JobRow.{JobRow}
-use Rattle.paxos_base.specs.Rows.{RowsStand, fresh_rows}
+use Rattle.paxos_base.specs.Rows.{RowsStand, fresh_rows, row_count}
 use Rattle.paxos_base.specs.Vote.{SlotsRise, votes_from}
 use Rattle.paxos_base.specs.Ballot.{IsAbove}
 use Rattle.store_format.specs.declared.body.Record.{Record}
@@ -12,9 +13,9 @@ use Rattle.store_format.specs.declared.body.Record.TheVariants.{Tried, Promised,
 use Rattle.store_format.specs.Order.{IsChangeLog, own_round}
 use Rattle.store_format.specs.Records.{AreRecords, record_ballot, own_ballot}
 
--- what a replica keeps at first: nothing was tried, promised or voted for, and each job's row is fresh
-abbrev pub fresh_kept : ℕ → Durable
-fresh_kept jobs = record { tried = 0; promised = None; votes = []; base = 0; rows = fresh_rows jobs }
+-- what a replica keeps at first: nothing was tried, promised or voted for, and each row is fresh
+abbrev pub fresh_kept : TableSize → Durable
+fresh_kept size = record { tried = 0; promised = None; votes = []; base = 0; rows = fresh_rows (row_count size) }
 
 -- the group of a base: its slot and how many rows follow, and then the rows, each with that slot
 abbrev pub group_of : ℕ → List JobRow → List Record
@@ -64,47 +65,47 @@ abbrev pub after_copy : ℕ → List JobRow → Copy → Option ℕ → Durable
 after_copy slot rows copy promised =
     record { tried = own_round copy.tried; promised = promised; votes = copy.votes; base = slot; rows = rows }
 
--- The records begin with the group of a base, for as many jobs. After it stands a copy, the longest there, after which the
--- greatest ballot in it is promised; and after that a log.
-pub record StandsFromBase (jobs : ℕ) (items : List Record) (kept : Durable) : Type 0 where
+-- The records begin with the group of a base, which has the rows of a table of that size. After it stands a copy, the
+-- longest there, after which the greatest ballot in it is promised; and after that a log.
+pub record StandsFromBase (size : TableSize) (items : List Record) (kept : Durable) : Type 0 where
   pub slot : ℕ
   pub rows : List JobRow
   pub copy : Copy
   pub promised : Option ℕ
   pub log : List Record
   pub parts : items ≡ group_of slot rows ++ (copy_records copy ++ log)
-  pub rows_stand : RowsStand rows jobs
+  pub rows_stand : RowsStand rows size
   pub is_copy : IsCopy slot copy
   pub longest : IsLongest slot copy (copy_records copy ++ log)
   pub greatest : IsGreatest promised (filter_map record_ballot (copy_records copy))
-  pub is_log : IsChangeLog jobs (after_copy slot rows copy promised) log kept
+  pub is_log : IsChangeLog size (after_copy slot rows copy promised) log kept
 
--- The records stand for what is kept, of a table of that many jobs: they are a log from the fresh state on, or begin with
--- the group of a base.
-abbrev pub Stands : ℕ → List Record → Durable → Type 0
-Stands jobs items kept = IsChangeLog jobs (fresh_kept jobs) items kept ⊎ StandsFromBase jobs items kept
+-- The records stand for what is kept, of a table of that size: they are a log from the fresh state on, or begin with the
+-- group of a base.
+abbrev pub Stands : TableSize → List Record → Durable → Type 0
+Stands size items kept = IsChangeLog size (fresh_kept size) items kept ⊎ StandsFromBase size items kept
 
 -- bodies stand for what is kept and the replica's own ballot
-pub record StandFor (jobs : ℕ) (bodies : List (List ℕ)) (kept : Durable) (own : Option ℕ) : Type 0 where
+pub record StandFor (size : TableSize) (bodies : List (List ℕ)) (kept : Durable) (own : Option ℕ) : Type 0 where
   pub items : List Record
   pub are_records : AreRecords bodies items
-  pub stands : Stands jobs items kept
+  pub stands : Stands size items kept
   pub own_is : own ≡ own_ballot items
 
 -- some list of bodies that begins with these stands for a state
-pub record BodiesMayStand (jobs : ℕ) (bodies : List (List ℕ)) : Type 0 where
+pub record BodiesMayStand (size : TableSize) (bodies : List (List ℕ)) : Type 0 where
   pub rest : List (List ℕ)
   pub kept : Durable
   pub own : Option ℕ
-  pub stand : StandFor jobs (bodies ++ rest) kept own
+  pub stand : StandFor size (bodies ++ rest) kept own
 
 -- The first record at fault is the least k such that no list of bodies that begins with bodies 0 to k stands for a state;
 -- where there is none, and yet the bodies stand for no state, it is their number.
-pub record IsFirstRecordAtFault (jobs : ℕ) (bodies : List (List ℕ)) (k : ℕ) : Type 0 where
+pub record IsFirstRecordAtFault (size : TableSize) (bodies : List (List ℕ)) (k : ℕ) : Type 0 where
   pub within : k ≤ length bodies
-  pub earlier : (j : ℕ) → j < k → BodiesMayStand jobs (take (j + 1) bodies)
-  pub here : k < length bodies → BodiesMayStand jobs (take (k + 1) bodies) → ⊥
-  pub for_none : (kept : Durable) (own : Option ℕ) → StandFor jobs bodies kept own → ⊥
+  pub earlier : (j : ℕ) → j < k → BodiesMayStand size (take (j + 1) bodies)
+  pub here : k < length bodies → BodiesMayStand size (take (k + 1) bodies) → ⊥
+  pub for_none : (kept : Durable) (own : Option ℕ) → StandFor size bodies kept own → ⊥
 
 -- the promise, where it is above the replica's own ballot
 abbrev pub promise_above : Option ℕ → Option ℕ → Option ℕ

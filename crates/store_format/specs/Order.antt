@@ -2,6 +2,7 @@
 -- Source: "Paxos Made Simple", section 2.2: an acceptor remembers its highest promise and its latest vote; docs/WIRE.md.
 use Rattle.std.specs.Prelude.{◌≡◌, ℕ, ◌<◌, ◌≤◌, Option, None, Some, List, map, take, slice_get, All, IfSome, IsSomeAnd}
 use Rattle.std.specs.List.{fold}
+use Rattle.paxos_base.specs.declared.rows.TableSize.{TableSize}
 use Rattle.paxos_base.specs.declared.durable.Delta.{Delta}
 use Rattle.paxos_base.specs.declared.durable.Delta.TheVariants.{Tried as TriedDelta, Promised as PromisedDelta, Voted as VotedDelta, Base as BaseDelta}
 use Rattle.paxos_base.specs.declared.durable.Durable.{Durable}
@@ -14,12 +15,12 @@ use Rattle.store_format.specs.declared.body.Record.TheVariants.{Tried, Promised,
 
 -- The change may follow what is kept. A round that is tried is above every earlier one, a ballot that is tried or promised
 -- is above the promise, and a ballot that is voted in is the promised one or above it. A vote is at a slot from the base
--- on. A base is above the one before it, and has the rows of a table of that many jobs.
-abbrev pub ChangeMayFollow : ℕ → Durable → Delta → Type 0
-ChangeMayFollow jobs kept (TriedDelta ballot) = (kept.tried < round_of ballot) × IsAbove ballot kept.promised
-ChangeMayFollow jobs kept (PromisedDelta ballot) = IsAbove ballot kept.promised
-ChangeMayFollow jobs kept (VotedDelta vote) = IsAtLeast vote.ballot kept.promised × (kept.base ≤ vote.slot)
-ChangeMayFollow jobs kept (BaseDelta slot rows) = (kept.base < slot) × RowsStand rows jobs
+-- on. A base is above the one before it, and has the rows of a table of that size.
+abbrev pub ChangeMayFollow : TableSize → Durable → Delta → Type 0
+ChangeMayFollow size kept (TriedDelta ballot) = (kept.tried < round_of ballot) × IsAbove ballot kept.promised
+ChangeMayFollow size kept (PromisedDelta ballot) = IsAbove ballot kept.promised
+ChangeMayFollow size kept (VotedDelta vote) = IsAtLeast vote.ballot kept.promised × (kept.base ≤ vote.slot)
+ChangeMayFollow size kept (BaseDelta slot rows) = (kept.base < slot) × RowsStand rows size
 
 -- the record of a change; a base has none of its own, since it begins an area anew
 abbrev pub delta_record : Delta → Option Record
@@ -34,10 +35,10 @@ after_deltas changes kept = fold (λ now change. after_delta change now) kept ch
 
 -- The records lead from one state to another: they are those of changes, and each change may follow the state that the
 -- changes before it leave.
-pub record IsChangeLog (jobs : ℕ) (first : Durable) (items : List Record) (last : Durable) : Type 0 where
+pub record IsChangeLog (size : TableSize) (first : Durable) (items : List Record) (last : Durable) : Type 0 where
   pub changes : List Delta
   pub are_changes : map delta_record changes ≡ map (λ item. Some item) items
-  pub may_follow : (k : ℕ) (change : Delta) → slice_get changes k ≡ Some change → ChangeMayFollow jobs (after_deltas (take k changes) first) change
+  pub may_follow : (k : ℕ) (change : Delta) → slice_get changes k ≡ Some change → ChangeMayFollow size (after_deltas (take k changes) first) change
   pub after : last ≡ after_deltas changes first
 
 -- the round of the replica's own ballot, or 0 where it has none

@@ -1,9 +1,12 @@
 -- How a reader goes over the records of an area, one after another. Private functions alone cite it.
 use Rattle.std.specs.Prelude.{ℕ, ◌+◌, Bool, true, false, ◌&&◌, ◌==◌, nat_lt, nat_le, max, if◌then◌else◌, Option, None, Some, unwrap_or, List, [], ◌∷◌, ◌++◌, length}
 use Rattle.std.specs.Option.{option_or}
+use Rattle.paxos_base.specs.declared.rows.TableSize.{TableSize}
 use Rattle.paxos_base.specs.declared.durable.Durable.{Durable}
 use Rattle.paxos_base.specs.declared.entry.Vote.{Vote}
+use Rattle.paxos_base.specs.declared.rows.JobRow.{JobRow}
 use Rattle.paxos_base.specs.Ballot.{round_of}
+use Rattle.paxos_base.specs.Rows.{fits_table, row_count}
 use Rattle.paxos_base.specs.Vote.{votes_below, put_vote}
 use Rattle.store_format.specs.declared.body.Record.{Record}
 use Rattle.store_format.specs.declared.body.Record.TheVariants.{Tried, Promised, Voted, Base, Row}
@@ -28,9 +31,13 @@ keeps_order kept (Voted vote) = is_at_least vote.ballot kept.promised && nat_le 
 keeps_order kept (Base slot count) = false
 keeps_order kept (Row slot row) = false
 
--- the place behind so many rows of a group
+-- the place behind so many of a group's rows
 abbrev pub group_place : ℕ → ℕ → Place
-group_place jobs count = if count == jobs then CopyStart else Rows
+group_place rows count = if count == rows then CopyStart else Rows
+
+-- the row may be the next of its group: the rows are in the order of their numbers, and the last is the table's own
+abbrev pub is_next_row : TableSize → Durable → ℕ → JobRow → Bool
+is_next_row size kept slot row = (slot == kept.base) && ((row.job == length kept.rows) && fits_table size row)
 
 -- the copy may go on with a Tried
 abbrev pub takes_own : Place → Bool
@@ -68,12 +75,12 @@ abbrev pub log_place : Durable → Record → Option Place
 log_place kept item = if keeps_order kept item then Some Log else None
 
 -- the place behind the record, where it may come next
-abbrev pub next_place : ℕ → Place → Durable → Record → Option Place
-next_place jobs Start kept (Base slot count) = if count == jobs then Some (group_place jobs 0) else None
-next_place jobs Rows kept (Row slot row) =
-    if (slot == kept.base) && (row.job == length kept.rows) then Some (group_place jobs (length kept.rows + 1)) else None
-next_place jobs Rows kept item = None
-next_place jobs place kept item = option_or (copy_place place kept item) (log_place kept item)
+abbrev pub next_place : TableSize → Place → Durable → Record → Option Place
+next_place size Start kept (Base slot count) = if count == row_count size then Some (group_place (row_count size) 0) else None
+next_place size Rows kept (Row slot row) =
+    if is_next_row size kept slot row then Some (group_place (row_count size) (length kept.rows + 1)) else None
+next_place size Rows kept item = None
+next_place size place kept item = option_or (copy_place place kept item) (log_place kept item)
 
 -- what is kept after the record: the greatest ballot is promised
 abbrev pub taken : Record → Durable → Durable

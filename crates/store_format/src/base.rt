@@ -1,5 +1,6 @@
 //! Writing the records of a base.
 ghost use Rattle.std.specs.Prelude.{◌≡◌, ℕ, [], ◌∷◌, ◌++◌, map, IfOk, OnOk};
+ghost use Rattle.paxos_base.specs.declared.rows.TableSize.{TableSize};
 ghost use Rattle.paxos_base.specs.declared.durable.Delta.TheVariants.{Base};
 ghost use Rattle.paxos_base.specs.Durable.{after_delta};
 ghost use Rattle.paxos_base.specs.Rows.{OpenHaveCursors, RowsStand};
@@ -91,8 +92,8 @@ pub fn write_base(
 ) -> Result<Vec<Body56>, OutOfMemory>
     ensures bodies { IfOk result (λ bodies. bodies.items ≡ map record_bytes (base_records kept.now own slot rows.now)) }
     ensures records { IfOk result (λ bodies. AreRecords bodies.items (base_records kept.now own slot rows.now)) }
-    ensures stand { (jobs : ℕ) → IsKeptSound kept.now own → RowsStand rows.now jobs
-        → IfOk result (λ bodies. StandFor jobs bodies.items (after_delta (Base slot rows.now) kept.now) own) }
+    ensures stand { (size : TableSize) → IsKeptSound kept.now own → RowsStand rows.now size
+        → IfOk result (λ bodies. StandFor size bodies.items (after_delta (Base slot rows.now) kept.now) own) }
 {
     let mut bodies = Vec::new(alloc);
     put_group(slot, rows, &mut bodies)?;

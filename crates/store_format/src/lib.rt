@@ -18,9 +18,10 @@
 //! | 5 | `Row` | slot, tag, job, ballot = launched, old = voided, at = cursor, now = open_now, last |
 //!
 //! An area is a log of changes, `Tried`, `Promised` and `Voted`, from the fresh state on, or begins with the group of a
-//! `Base` and its rows. Then the records directly after the group are a copy of what was kept beside the rows: the longest
-//! run there that is at most one `Tried`, at most one `Promised` above it, and `Voted` records at rising slots from the
-//! base on. After the copy the greatest ballot in it is promised, and the log goes on from there.
+//! `Base` and its rows, one for each job and the table's own behind them. Then the records directly after the group are a
+//! copy of what was kept beside the rows: the longest run there that is at most one `Tried`, at most one `Promised` above
+//! it, and `Voted` records at rising slots from the base on. After the copy the greatest ballot in it is promised, and the
+//! log goes on from there.
 #![tactic(auto)]
 
 mod base;

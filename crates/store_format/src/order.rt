@@ -1,11 +1,12 @@
 //! The order rule: which changes may follow what is kept.
 ghost use Rattle.std.specs.Prelude.{◌≡◌, ◌↔◌, ◌&&◌, nat_lt, nat_le, IsTrue};
+ghost use Rattle.paxos_base.specs.declared.rows.TableSize.{TableSize};
 ghost use Rattle.paxos_base.specs.Ballot.{round_of};
 ghost use Rattle.store_format.specs.Order.{ChangeMayFollow, delta_record};
 ghost use Rattle.store_format.specs.Places.{is_above, is_at_least, keeps_order};
 
 use crate::body::Record;
-use paxos_base::{Ballot, Delta, Durable, Vote, rows_stand};
+use paxos_base::{Ballot, Delta, Durable, TableSize, Vote};
 
 /// Whether the ballot is above the promise, as each is where there is none.
 pub(crate) fn is_above(ballot: Ballot, promised: Option<Ballot>) -> bool
@@ -51,15 +52,15 @@ pub(crate) fn keeps_order(kept: &Durable, item: &Record) -> bool
     }
 }
 
-/// Whether a change may follow what is kept, of a table of that many jobs.
-pub fn may_follow(kept: &Durable, jobs: u32, delta: &Delta) -> bool
-    ensures { IsTrue result ↔ ChangeMayFollow jobs kept.now delta.now }
+/// Whether a change may follow what is kept, of a table of that size.
+pub fn may_follow(kept: &Durable, size: TableSize, delta: &Delta) -> bool
+    ensures { IsTrue result ↔ ChangeMayFollow size kept.now delta.now }
 {
     match delta {
         Delta::Tried(ballot) => may_try(kept, *ballot),
         Delta::Promised(ballot) => is_above(*ballot, kept.promised),
         Delta::Voted(vote) => may_vote(kept, *vote),
-        Delta::Base { slot, rows } => kept.base < *slot && rows_stand(rows, jobs, 0),
+        Delta::Base { slot, rows } => kept.base < *slot && rows.stand_for(size),
     }
 }
 

@@ -1,12 +1,13 @@
 //! How far a reader has come in an area, and where the next record leads.
 ghost use Rattle.std.specs.Prelude.{◌≡◌, ◌↔◌, IsTrue};
 ghost use Rattle.std.specs.Option.{option_or};
+ghost use Rattle.paxos_base.specs.declared.rows.TableSize.{TableSize};
 ghost use Rattle.paxos_base.specs.Vote.{SlotsRise};
-ghost use Rattle.store_format.specs.Places.{takes_own, takes_promise, takes_votes, is_behind, copy_place, log_place, next_place, group_place};
+ghost use Rattle.store_format.specs.Places.{takes_own, takes_promise, takes_votes, is_behind, copy_place, log_place, next_place, group_place, is_next_row};
 
 use crate::body::Record;
 use crate::order::{is_above, keeps_order};
-use paxos_base::{Durable, Vote, VoteList, place_of};
+use paxos_base::{Durable, JobRow, TableSize, Vote, VoteList, place_of};
 
 /// How far a reader has come in an area.
 #[derive(Clone, Copy, Debug, PartialEq, Eq)]
@@ -28,14 +29,21 @@ pub(crate) enum Place {
 }
 
 // The place behind so many rows of a group.
-fn group_place(jobs: u32, count: usize) -> Place
-    ensures { result ≡ group_place jobs count }
+fn group_place(rows: u64, count: usize) -> Place
+    ensures { result ≡ group_place rows count }
 {
-    if count == jobs as usize {
+    if count as u64 == rows {
         Place::CopyStart
     } else {
         Place::Rows
     }
+}
+
+// The row may be the next of its group.
+fn is_next_row(size: TableSize, kept: &Durable, slot: u64, row: JobRow) -> bool
+    ensures { result ≡ is_next_row size kept.now slot row }
+{
+    slot == kept.base && row.job as usize == kept.rows.items.len() && row.fits_table(size)
 }
 
 // All votes are below the slot.
@@ -100,17 +108,16 @@ impl Place {
     }
 
     /// The place behind the record, where it may come next.
-    pub(crate) fn next(self, jobs: u32, kept: &Durable, item: &Record) -> Option<Place>
-        ensures { result ≡ next_place jobs self kept.now item.now }
+    pub(crate) fn next(self, size: TableSize, kept: &Durable, item: &Record) -> Option<Place>
+        ensures { result ≡ next_place size self kept.now item.now }
     {
-        let rows = kept.rows.items.len();
         match (self, *item) {
-            (Place::Start, Record::Base { count, .. }) if count == u64::from(jobs) => {
-                Some(group_place(jobs, 0))
+            (Place::Start, Record::Base { count, .. }) if count == size.row_count() => {
+                Some(group_place(size.row_count(), 0))
             }
-            (Place::Rows, Record::Row { slot, row })
-                if slot == kept.base && row.job as usize == rows => {
-                Some(group_place(jobs, rows + 1))
+            (Place::Rows, Record::Row { slot, row }) if is_next_row(size, kept, slot, row) => {
+                let rows = kept.rows.items.len() + 1;
+                Some(group_place(size.row_count(), rows))
             }
             (Place::Start, Record::Base { .. }) | (Place::Rows, _) => None,
             _ => self.in_copy_or_log(kept, item),

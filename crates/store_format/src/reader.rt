@@ -2,6 +2,7 @@
 ghost use Rattle.std.specs.Prelude.{◌≡◌, ◌∷◌, ◌++◌, [], map, max, unwrap_or, None, Some, IfOk, OnOk};
 ghost use Rattle.std.specs.List.{range_with_len};
 ghost use Rattle.std.specs.Option.{option_or};
+ghost use Rattle.paxos_base.specs.declared.rows.TableSize.{TableSize};
 ghost use Rattle.paxos_base.specs.Rows.{OpenHasCursor};
 ghost use Rattle.paxos_base.specs.Vote.{put_vote};
 ghost use Rattle.paxos_base.specs.Rows.{fresh_row};
@@ -12,7 +13,7 @@ ghost use Rattle.store_format.specs.Records.{RowHasCursor, tried_in};
 use crate::body::Record;
 use crate::place::Place;
 use cron_io::OutOfMemory;
-use paxos_base::{Ballot, Durable, JobRow, RowList, Vote, VoteList, put_vote};
+use paxos_base::{Ballot, Durable, JobRow, RowList, TableSize, Vote, VoteList, put_vote};
 use std::alloc::Global;
 
 /// A reader, with what is kept after the records that it has read.
@@ -42,12 +43,12 @@ fn add_row(rows: &mut RowList, row: JobRow) -> Result<(), OutOfMemory>
 
 impl Reader {
     /// A reader before the first record.
-    pub(crate) fn new(alloc: Global, jobs: u32) -> Result<Reader, OutOfMemory>
+    pub(crate) fn new(alloc: Global, size: TableSize) -> Result<Reader, OutOfMemory>
         ensures place { IfOk result (λ reader. reader.place ≡ Place.Start) }
-        ensures kept { IfOk result (λ reader. reader.kept ≡ fresh_kept jobs) }
+        ensures kept { IfOk result (λ reader. reader.kept ≡ fresh_kept size) }
         ensures own { IfOk result (λ reader. reader.own ≡ None) }
     {
-        let rows = RowList::fresh(alloc, jobs)?;
+        let rows = RowList::fresh(alloc, size)?;
         let votes = VoteList {
             items: Vec::new(alloc),
         };

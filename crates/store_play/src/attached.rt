@@ -1,5 +1,6 @@
 //! A store on its disk.
 ghost use Rattle.std.specs.Prelude.{◌≡◌, length, IfOk};
+ghost use Rattle.launch_machine.specs.Clerk.{table_size};
 ghost use Rattle.paxos_base.specs.Durable.{after_delta};
 ghost use Rattle.store_format.specs.Order.{ChangeMayFollow};
 
@@ -7,6 +8,7 @@ use crate::bare::{Bare, Owner};
 use crate::seat::Seat;
 use crate::text::Text;
 use disk_model::{ArmedDisk, MemDisk};
+use launch_machine::table_size;
 use paxos_base::{Delta, Durable};
 use replica_node::NodeFault;
 use replica_store::{Store, StoreFault};
@@ -90,7 +92,7 @@ impl<'a> Attached<'a> {
 
     /// Saves a change, where it may follow what is kept.
     pub fn save(self, delta: &Delta, text: &mut Text) -> Seat<'a> {
-        if !may_follow(&self.kept, self.owner.table.jobs(), delta) {
+        if !may_follow(&self.kept, table_size(&self.owner.table), delta) {
             text.put_refusal("the change may not follow what is kept");
             return Seat::Attached(self);
         }
@@ -105,7 +107,7 @@ impl<'a> Attached<'a> {
 
     // Saves a change that may follow what is kept, which is that then.
     fn save_to(self, delta: &Delta, after: Durable, text: &mut Text) -> Seat<'a>
-        requires follows { ChangeMayFollow (length self.table.jobs) self.kept delta.now }
+        requires follows { ChangeMayFollow (table_size self.table) self.kept delta.now }
         requires after { after ≡ after_delta delta.now self.kept }
     {
         let Attached {

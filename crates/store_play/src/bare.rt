@@ -6,6 +6,7 @@ use crate::seat::Seat;
 use crate::text::Text;
 use disk_model::{ArmedDisk, DiskFault, FileNo, MemDisk, read_file};
 use due_set::JobTable;
+use launch_machine::table_size;
 use replica_node::{Node, NodeFault};
 use replica_store::{Store, StoreFault};
 use std::alloc::Global;
@@ -52,7 +53,7 @@ impl<'a> Bare<'a> {
     /// Attaches a store, and writes what it keeps.
     pub fn attach(self, text: &mut Text) -> Seat<'a> {
         let Bare { owner, mut disk } = self;
-        match Store::attach(owner.alloc, &mut disk, owner.table.jobs()) {
+        match Store::attach(owner.alloc, &mut disk, table_size(&owner.table)) {
             Ok((store, kept)) => {
                 text.put_kept(&kept);
                 Seat::Attached(Attached {

@@ -84,16 +84,31 @@ fn put_part(row: &mut JobRow, part: &str) -> Result<(), PlayFault> {
     Ok(())
 }
 
-// A row by its parts, as `row job 0, cursor 2024-03-31T00:00Z, launched 3`. It is fresh but for these.
-fn row_of(text: &str) -> Result<JobRow, PlayFault> {
-    let mut parts = text.split(", ");
-    let first = parts.next().ok_or(PlayFault::BadRow)?;
-    let job = first.strip_prefix("row job ").ok_or(PlayFault::BadRow)?;
-    let mut row = JobRow::fresh(small_of(job)?);
-    for part in parts {
+// The row of that number by its parts, as `cursor 2024-03-31T00:00Z, launched 3`. It is fresh but for these.
+fn row_with(number: u32, parts: &str) -> Result<JobRow, PlayFault> {
+    let mut row = JobRow::fresh(number);
+    for part in parts.split(", ") {
         put_part(&mut row, part)?;
     }
     Ok(row)
+}
+
+// The row of a job, as `row job 0, cursor 2024-03-31T00:00Z, launched 3`.
+fn row_of(text: &str) -> Result<JobRow, PlayFault> {
+    let rest = text.strip_prefix("row job ").ok_or(PlayFault::BadRow)?;
+    match rest.split_once(", ") {
+        Some((job, parts)) => row_with(small_of(job)?, parts),
+        None => Ok(JobRow::fresh(small_of(rest)?)),
+    }
+}
+
+// The table's own row, by what is written behind `row table` and by its number.
+fn table_row_of(number: u32, text: &str) -> Result<JobRow, PlayFault> {
+    match text.strip_prefix(", ") {
+        Some(parts) => row_with(number, parts),
+        None if text.is_empty() => Ok(JobRow::fresh(number)),
+        None => Err(PlayFault::BadRow),
+    }
 }
 
 // Whether each row that is open has a cursor.
@@ -104,14 +119,18 @@ fn have_cursors(rows: &[JobRow]) -> bool
         .all(|row| row.open_now.is_none() || row.cursor.is_some())
 }
 
-// A base, as `64; row job 0`.
+// A base, as `64; row job 0; row table`. Where the table's own row isn't written it is fresh.
 fn base_of(alloc: Global, text: &str) -> Result<Delta, PlayFault> {
-    let mut parts = text.split("; ");
+    let (jobs, own) = text.split_once("; row table").unwrap_or((text, ""));
+    let mut parts = jobs.split("; ");
     let slot = number_of(parts.next().ok_or(PlayFault::MissingWord)?)?;
     let mut items = Vec::new(alloc);
+    let mut number = 0u32;
     for part in parts {
         items.push(row_of(part)?)?;
+        number = number.saturating_add(1);
     }
+    items.push(table_row_of(number, own)?)?;
     if !have_cursors(&items) {
         return Err(PlayFault::BadRow);
     }

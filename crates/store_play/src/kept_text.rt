@@ -44,9 +44,25 @@ impl Text {
         self.put_entry(" ", &vote.entry);
     }
 
-    // Appends words, and a row of the launch table behind them. What isn't there is left out, and so is a count of 0.
-    fn put_row(&mut self, words: &str, row: &JobRow) {
-        self.put_number(words, u64::from(row.job));
+    // Appends rows of the launch table, each with words before and behind it: those of the jobs, and the table's own, the last.
+    fn put_rows(&mut self, before: &str, rows: &[JobRow], behind: &str) {
+        let Some((own, jobs)) = rows.split_last() else {
+            return;
+        };
+        for row in jobs {
+            self.put(before);
+            self.put_number("row job ", u64::from(row.job));
+            self.put_parts(row);
+            self.put(behind);
+        }
+        self.put(before);
+        self.put("row table");
+        self.put_parts(own);
+        self.put(behind);
+    }
+
+    // Appends the parts of a row. What isn't there is left out, and so is a count of 0.
+    fn put_parts(&mut self, row: &JobRow) {
         self.put_instant(", cursor ", row.cursor);
         self.put_instant(", open ", row.open_now);
         self.put_instant(", last ", row.last);
@@ -77,9 +93,7 @@ impl Text {
             Delta::Voted(vote) => self.put_vote("voted ", vote),
             Delta::Base { slot, rows } => {
                 self.put_number("base ", *slot);
-                for row in &rows.items {
-                    self.put_row("; row job ", row);
-                }
+                self.put_rows("; ", &rows.items, "");
             }
         }
         self.put("\n");
@@ -98,9 +112,6 @@ impl Text {
             self.put_vote("  vote ", vote);
             self.put("\n");
         }
-        for row in &kept.rows.items {
-            self.put_row("  row job ", row);
-            self.put("\n");
-        }
+        self.put_rows("  ", &kept.rows.items, "\n");
     }
 }

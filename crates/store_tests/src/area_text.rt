@@ -2,17 +2,19 @@
 use crate::change::{ballot_of, row_of};
 use disk_model::{Disk, DiskFault, FileNo, MemDisk};
 use gate_file::Body56;
+use paxos_base::JobRow;
 use std::alloc::{AllocError, Global};
 use store_format::{Record, record_bytes};
 
-/// The body of a letter: `p` and `q` are promises of the ballots 8 and 16, `b` and `c` the bases of slot 5 with two and with
-/// three rows, `r` and `s` the rows of the first, and any other stands for its own byte.
+/// The body of a letter: `p` and `q` are promises of the ballots 8 and 16, `b` and `c` the bases of slot 5 with three and with
+/// two rows, `r` and `s` the rows of two jobs, `t` the table's own and `u` one in its place that a job may have, and any other
+/// stands for its own byte.
 pub fn body_of(letter: u8) -> [u8; 56] {
     let item = match letter {
         b'p' => Record::Promised(ballot_of(8)),
         b'q' => Record::Promised(ballot_of(16)),
-        b'b' => Record::Base { slot: 5, count: 2 },
-        b'c' => Record::Base { slot: 5, count: 3 },
+        b'b' => Record::Base { slot: 5, count: 3 },
+        b'c' => Record::Base { slot: 5, count: 2 },
         b'r' => Record::Row {
             slot: 5,
             row: row_of(0, 7),
@@ -20,6 +22,17 @@ pub fn body_of(letter: u8) -> [u8; 56] {
         b's' => Record::Row {
             slot: 5,
             row: row_of(1, 7),
+        },
+        b't' => Record::Row {
+            slot: 5,
+            row: row_of(2, 7),
+        },
+        b'u' => Record::Row {
+            slot: 5,
+            row: JobRow {
+                job: 2,
+                ..row_of(1, 7)
+            },
         },
         b'f' => return [0xff; 56],
         _ => return [letter; 56],

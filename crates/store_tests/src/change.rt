@@ -2,11 +2,14 @@
 ghost use Rattle.paxos_base.specs.Rows.{OpenHasCursor};
 
 use cron_io::OutOfMemory;
-use paxos_base::{Ballot, Delta, Durable, Entry, JobRow, Kind, RowList, Vote, VoteList};
+use paxos_base::{Ballot, Delta, Durable, Entry, JobRow, Kind, RowList, TableSize, Vote, VoteList};
 use std::alloc::Global;
 
-/// How many jobs the table has.
-pub const JOBS: u32 = 2;
+/// A table of two jobs and one version.
+pub const SIZE: TableSize = TableSize {
+    jobs: 2,
+    last_version: 0,
+};
 
 /// A change: a ballot by its number, a vote by its slot and its ballot, and a base by its slot and by a number that its
 /// rows have.
@@ -46,36 +49,38 @@ pub fn vote_of(slot: u32, number: u32) -> Vote {
     }
 }
 
-/// A row that has the number: the launch of the first of two jobs is open, and the second has none that is.
+/// A row that has the number: the launch of the first of two jobs is open, and the second has none that is. The last row is
+/// the table's own, whatever the number.
 pub fn row_of(job: u32, number: u32) -> JobRow
     ensures { OpenHasCursor result }
 {
     let at = i64::from(number);
     let fresh = JobRow::fresh(job);
-    if job == 0 {
-        JobRow {
+    match job {
+        0 => JobRow {
             cursor: Some(at),
             open_now: Some(at),
             launched: number,
             ..fresh
-        }
-    } else {
-        JobRow {
+        },
+        1 => JobRow {
             last: Some(at),
             voided: number,
             ..fresh
-        }
+        },
+        _ => fresh,
     }
 }
 
-/// The rows of two jobs; those of number 0 are fresh.
+/// The rows of two jobs, and the table's; those of number 0 are fresh.
 pub fn rows_of(alloc: Global, number: u32) -> Result<RowList, OutOfMemory> {
     if number == 0 {
-        return Ok(RowList::fresh(alloc, JOBS)?);
+        return Ok(RowList::fresh(alloc, SIZE)?);
     }
     let mut items = Vec::new(alloc);
     items.push(row_of(0, number))?;
     items.push(row_of(1, number))?;
+    items.push(row_of(2, number))?;
     Ok(RowList { items })
 }
 

@@ -2,10 +2,11 @@
 ghost use Rattle.std.specs.Prelude.{◌≡◌, IfOk, OnOk};
 ghost use Rattle.paxos_base.specs.Durable.{after_delta};
 ghost use Rattle.store_format.specs.Order.{ChangeMayFollow};
-ghost use Rattle.replica_store.specs.Store.{jobs_of_store, StoreKeeps, IsStoreAtRest};
+ghost use Rattle.replica_store.specs.Store.{size_of_store, StoreKeeps, IsStoreAtRest};
+ghost use Rattle.store_tests.specs.Tables.{two_jobs};
 
 use crate::area_text::fill;
-use crate::change::{Change, JOBS, delta_of};
+use crate::change::{Change, SIZE, delta_of};
 use cron_io::OutOfMemory;
 use disk_model::FileNo::{AreaA, AreaB, Chooser};
 use disk_model::{ArmedDisk, Disk, MemDisk};
@@ -33,20 +34,20 @@ impl Kept {
     fn attach<D: Disk>(alloc: Global, disk: &mut D) -> Result<Kept, StoreFault>
         ensures rests { IfOk result (λ kept. IsStoreAtRest D.view disk.new kept.store) }
         ensures keeps { IfOk result (λ kept. StoreKeeps kept.store kept.durable) }
-        ensures jobs { IfOk result (λ kept. jobs_of_store kept.store ≡ 2) }
+        ensures size { IfOk result (λ kept. size_of_store kept.store ≡ two_jobs) }
     {
-        let (store, durable) = Store::attach(alloc, disk, JOBS)?;
+        let (store, durable) = Store::attach(alloc, disk, SIZE)?;
         Ok(Kept { store, durable })
     }
 
     fn save<D: Disk>(&mut self, disk: &mut D, delta: Delta) -> Result<(), StoreFault>
         requires rests { IsStoreAtRest D.view disk.old self.old.store }
         requires keeps { StoreKeeps self.old.store self.old.durable }
-        requires jobs { jobs_of_store self.old.store ≡ 2 }
-        requires follows { ChangeMayFollow 2 self.old.durable delta }
+        requires size { size_of_store self.old.store ≡ two_jobs }
+        requires follows { ChangeMayFollow two_jobs self.old.durable delta }
         ensures rests { OnOk result (IsStoreAtRest D.view disk.new self.new.store) }
         ensures keeps { OnOk result (StoreKeeps self.new.store self.new.durable) }
-        ensures jobs { jobs_of_store self.new.store ≡ 2 }
+        ensures size { size_of_store self.new.store ≡ two_jobs }
     {
         self.store.save(disk, &delta)?;
         take(&mut self.durable, delta)?;
@@ -62,11 +63,11 @@ impl Kept {
     ) -> Result<(), StoreFault>
         requires rests { IsStoreAtRest D.view disk.old self.old.store }
         requires keeps { StoreKeeps self.old.store self.old.durable }
-        requires jobs { jobs_of_store self.old.store ≡ 2 }
+        requires size { size_of_store self.old.store ≡ two_jobs }
     {
         for change in changes {
             let delta = delta_of(alloc, *change)?;
-            if !may_follow(&self.durable, JOBS, &delta) {
+            if !may_follow(&self.durable, SIZE, &delta) {
                 return Err(StoreFault::Damaged { gate: u64::MAX });
             }
             self.save(disk, delta)?;

@@ -1,16 +1,19 @@
 //! The records of an area: their bytes, and what they stand for.
 use crate::change::ballot_of;
-use Item::{B, P, R, T, V};
+use Item::{B, F, P, R, T, V};
 use gate_file::Body56;
-use paxos_base::{Ballot, Durable, Entry, JobRow, PACKET_BYTES, RowList, Vote};
+use paxos_base::{Ballot, Durable, Entry, JobRow, PACKET_BYTES, RowList, TableSize, Vote};
 use std::alloc::{AllocError, Global};
 use std::test::Fail;
 use store_format::{ReadFault, Record, read_records, record_bytes, record_in, write_base};
 
-const JOBS: u32 = 2;
+const SIZE: TableSize = TableSize {
+    jobs: 2,
+    last_version: 0,
+};
 
 // A record: a ballot of replica 0 by its round, a vote by its slot and its round, the base of slot 5 by how many rows follow,
-// and a row of it by its job.
+// a row of it by its job, and a fresh one, which the table's own may be.
 #[derive(Clone, Copy, Debug)]
 enum Item {
     T(u32),
@@ -18,6 +21,7 @@ enum Item {
     V(u64, u32),
     B(u64),
     R(u32),
+    F(u32),
 }
 
 fn of_round(round: u32) -> Ballot {
@@ -42,6 +46,10 @@ fn record_of(item: Item) -> Record {
                 voided: 2,
                 ..JobRow::fresh(job)
             },
+        },
+        F(job) => Record::Row {
+            slot: 5,
+            row: JobRow::fresh(job),
         },
     }
 }
@@ -98,6 +106,10 @@ const SPELLED: &[Spelled] = &[
             (39, 255),
         ],
     },
+    Spelled {
+        item: F(2),
+        bytes: &[(0, 5), (7, 2), (23, 5)],
+    },
 ];
 
 fn spell(places: &[(usize, u8)]) -> [u8; PACKET_BYTES] {
@@ -153,38 +165,50 @@ const AREAS: &[Area] = &[
         items: &[P(3), V(0, 2)],
         want: Err(1),
     },
-    // the group of a base
+    // the group of a base, which ends with the table's own row
     Area {
-        items: &[B(2), R(0)],
+        items: &[B(3), R(0)],
         want: Err(2),
     },
     Area {
-        items: &[B(3), R(0)],
+        items: &[B(2), R(0), R(1)],
         want: Err(0),
     },
     Area {
-        items: &[B(2), R(1)],
+        items: &[B(4), R(0)],
+        want: Err(0),
+    },
+    Area {
+        items: &[B(3), R(1)],
         want: Err(1),
     },
     Area {
-        items: &[B(2), R(0), R(1)],
+        items: &[B(3), R(0), R(1)],
+        want: Err(3),
+    },
+    Area {
+        items: &[B(3), R(0), R(1), R(2)],
+        want: Err(3),
+    },
+    Area {
+        items: &[B(3), R(0), R(1), F(2)],
         want: Ok((0, 0, 0, 5)),
     },
     // a copy, and the log after it
     Area {
-        items: &[B(2), R(0), R(1), P(4), V(5, 3), V(6, 2)],
+        items: &[B(3), R(0), R(1), F(2), P(4), V(5, 3), V(6, 2)],
         want: Ok((0, 4, 2, 5)),
     },
     Area {
-        items: &[B(2), R(0), R(1), P(4), V(5, 4), V(5, 3)],
-        want: Err(5),
+        items: &[B(3), R(0), R(1), F(2), P(4), V(5, 4), V(5, 3)],
+        want: Err(6),
     },
     Area {
-        items: &[B(2), R(0), R(1), V(5, 4), V(6, 3), P(4)],
-        want: Err(5),
+        items: &[B(3), R(0), R(1), F(2), V(5, 4), V(6, 3), P(4)],
+        want: Err(6),
     },
     Area {
-        items: &[B(2), R(0), R(1), V(5, 4), V(6, 3), P(5)],
+        items: &[B(3), R(0), R(1), F(2), V(5, 4), V(6, 3), P(5)],
         want: Ok((0, 5, 2, 5)),
     },
 ];
@@ -200,7 +224,7 @@ fn read(alloc: Global, items: &[Item]) -> Result<(u64, u64, usize, u64), u64> {
     let Ok(bodies) = bodies_of(alloc, items) else {
         return Err(u64::MAX);
     };
-    match read_records(alloc, JOBS, &bodies) {
+    match read_records(alloc, SIZE, &bodies) {
         Ok((kept, own)) => Ok(numbers(&kept, own)),
         Err(ReadFault::Damaged { record }) => Err(record),
         Err(ReadFault::OutOfMemory) => Err(u64::MAX),
@@ -216,7 +240,7 @@ fn records_stand_for_a_state_or_are_damaged(rt: HostRuntime) {
 
 // The group of a base of slot 5, and a copy of what was kept.
 fn based(alloc: Global, log: &[Item], rows: &RowList) -> Result<Vec<Body56>, Fail> {
-    let Ok((kept, own)) = read_records(alloc, JOBS, &bodies_of(alloc, log)?) else {
+    let Ok((kept, own)) = read_records(alloc, SIZE, &bodies_of(alloc, log)?) else {
         return Err("the log is damaged".into());
     };
     Ok(write_base(alloc, &kept, own, 5, rows)?)
@@ -224,9 +248,9 @@ fn based(alloc: Global, log: &[Item], rows: &RowList) -> Result<Vec<Body56>, Fai
 
 #[test]
 fn a_base_has_a_copy_of_what_is_kept(rt: HostRuntime) -> Result<(), Fail> {
-    let rows = RowList::fresh(rt.alloc(), 0)?;
+    let rows = RowList::fresh(rt.alloc(), SIZE)?;
     let written = based(rt.alloc(), &[T(2), V(4, 3), V(6, 4), P(5)], &rows)?;
-    let want = bodies_of(rt.alloc(), &[B(0), T(2), P(5), V(6, 4)])?;
+    let want = bodies_of(rt.alloc(), &[B(3), F(0), F(1), F(2), T(2), P(5), V(6, 4)])?;
     assert_eq!(rt; written, want);
     Ok(())
 }

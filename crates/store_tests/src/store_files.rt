@@ -125,11 +125,11 @@ const STANDING: &[Standing] = &[
     },
     // the group of a base
     Standing {
-        files: Files(b"", "1b1r1s0", ""),
+        files: Files(b"", "1b1r1s1t0", ""),
         changes: &[Base(5, 7)],
     },
     Standing {
-        files: Files(&[1], "", "1b1r1s1p0"),
+        files: Files(&[1], "", "1b1r1s1t1p0"),
         changes: &[Base(5, 7), Promised(8)],
     },
 ];
@@ -183,17 +183,26 @@ const DAMAGED: &[Damaged] = &[
         files: Files(b"", "1b1s1r0", ""),
         gate: 1,
     },
+    // no row of the table, one that isn't its own, and a count of the jobs alone
+    Damaged {
+        files: Files(b"", "1b1r1s0", ""),
+        gate: 3,
+    },
+    Damaged {
+        files: Files(b"", "1b1r1s1u0", ""),
+        gate: 3,
+    },
     Damaged {
         files: Files(b"", "1c1r1s0", ""),
         gate: 0,
     },
     Damaged {
-        files: Files(b"", "1p1b1r1s0", ""),
+        files: Files(b"", "1p1b1r1s1t0", ""),
         gate: 1,
     },
     Damaged {
-        files: Files(b"", "1b1r1s1p1p0", ""),
-        gate: 4,
+        files: Files(b"", "1b1r1s1t1p1p0", ""),
+        gate: 5,
     },
 ];
 

@@ -22,7 +22,7 @@ use Rattle.step_spec.specs.Propose.{tick}
 use Rattle.step_spec.specs.State.{State, prefix_of, promised_in}
 use Rattle.step_spec.specs.Step.{Hear, IsPlanned, Plan, Tick, step}
 use Rattle.agreement.specs.Transition.{identity_of}
-use Rattle.history.proofs.Asks.{busy, call_asked, minute, opened, sound}
+use Rattle.history.proofs.Asks.{busy, call_asked, minute, opened, sound, with_table}
 use Rattle.synchronous_rounds.specs.Cluster.{Advice, ArePlanned, Cluster, HeardLetter, IsAdvised, cluster_round, events_at}
 use Rattle.synchronous_rounds.specs.LedAlone.{Progress}
 use Rattle.synchronous_rounds.specs.Again.{EndsWithCampaign, HasCampaignedAgain}
@@ -34,7 +34,7 @@ use Rattle.synchronous_rounds.proofs.TermLemmas.{sound_events}
 
 -- a launch is open, and its start lies below the base
 abbrev pub open_rows : List JobRow
-open_rows = opened 0 ∷ []
+open_rows = with_table (opened 0)
 
 abbrev pub far : Progress
 far = record { ballot = 16; table = busy; rows = open_rows; prefix = 1; base = 1 }

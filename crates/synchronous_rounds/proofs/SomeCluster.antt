@@ -25,7 +25,7 @@ use Rattle.step_spec.specs.Propose.{answer, is_open, propose, tick}
 use Rattle.step_spec.specs.State.{State, prefix_of, promised_in}
 use Rattle.step_spec.specs.Step.{Answer, Hear, IsPlanned, Plan, Tick, step}
 use Rattle.agreement.specs.Transition.{identity_of}
-use Rattle.history.proofs.Asks.{busy, call_asked, is_open_then, minute, opened, sound}
+use Rattle.history.proofs.Asks.{busy, call_asked, is_open_then, minute, opened, sound, with_table}
 use Rattle.due_set.specs.Table.{IsSound, Table}
 use Rattle.synchronous_rounds.specs.Rounds.{IsAnswerTo, IsAnswerable, IsFreeNow}
 use Rattle.synchronous_rounds.specs.Cluster.{Advice, ArePlanned, Cluster, HeardLetter, IsAdvised, events_at, cluster_round, calls_at, before_tick}
@@ -43,7 +43,7 @@ use Rattle.due_set.proofs.Rising.{Contains-head as in_first}
 
 -- a launch is open, and its start lies below the base
 abbrev open_rows : List JobRow
-open_rows = opened 0 ∷ []
+open_rows = with_table (opened 0)
 
 abbrev far : Progress
 far = record { ballot = 16; table = busy; rows = open_rows; prefix = 1; base = 1 }

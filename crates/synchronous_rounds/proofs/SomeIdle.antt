@@ -10,7 +10,7 @@ use Rattle.paxos_base.specs.declared.rows.JobRow.{JobRow}
 use Rattle.cluster_sched.specs.declared.row.SchedRow.{SchedRow}
 use Rattle.due_set.specs.Table.{IsBuiltFor, IsSound, Table}
 use Rattle.launch_machine.specs.Answers.{IsIntent}
-use Rattle.launch_machine.specs.Clerk.{MayStart}
+use Rattle.launch_machine.specs.Clerk.{MayStart, first_rows}
 use Rattle.launch_machine.specs.declared.machine.Intent.TheVariants.{Rest}
 use Rattle.launch_machine.proofs.ExistLemmas.{all_applied}
 use Rattle.term_core.specs.declared.term.Term.TheVariants.{Follower, Leader}
@@ -160,7 +160,7 @@ some_rounds members leader now cluster few coherent =
 -- ---- the replicas
 
 abbrev kept_with : (tried base : ℕ) → Durable
-kept_with tried base = record { tried = tried; promised = Some 16; votes = []; base = base; rows = [] }
+kept_with tried base = record { tried = tried; promised = Some 16; votes = []; base = base; rows = first_rows bare }
 
 abbrev ahead : ℕ → List Entry → State
 ahead base learned = record { kept = kept_with 2 base; learned = learned; term = Leader 16 [] None; seen = 16 }
@@ -177,7 +177,7 @@ abbrev some_cluster : ℕ → List Entry → Cluster
 some_cluster base learned = record { replicas = two (ahead base learned) lagging; waits = λ who. None; mails = λ who. [] }
 
 abbrev far : ℕ → Progress
-far base = record { ballot = 16; table = bare; rows = []; prefix = 1; base = base }
+far base = record { ballot = 16; table = bare; rows = first_rows bare; prefix = 1; base = base }
 
 coherent_two : (base : ℕ) (learned : List Entry) → AreCoherent 2 (some_cluster base learned)
 coherent_two base learned zero below =
@@ -185,7 +185,7 @@ coherent_two base learned zero below =
 coherent_two base learned (suc zero) below = record { promised = omega arith; term = tt; votes = All-nil (λ vote. vote.ballot ≤ 16) }
 coherent_two base learned (suc (suc more)) below = absurd (omega (arith, below))
 
-some_idle : (base : ℕ) (learned : List Entry) (now : ℤ) → base + length learned ≡ 1 → IsLaunchTable bare (ahead base learned) [] → IsIdle 2 0 [] (far base) now (some_cluster base learned)
+some_idle : (base : ℕ) (learned : List Entry) (now : ℤ) → base + length learned ≡ 1 → IsLaunchTable bare (ahead base learned) (first_rows bare) → IsIdle 2 0 [] (far base) now (some_cluster base learned)
 unfolding votes_from
 some_idle base learned now long launch = record {
   free = record {
@@ -197,7 +197,7 @@ some_idle base learned now long launch = record {
     alone = refl;
   };
   unbound = refl;
-  rests = bare_rests [] now;
+  rests = bare_rests (first_rows bare) now;
 }
   where
     behind : (who : ℕ) → who < 2 → (who ≡ 0 → ⊥) → IsBehind 16 1 ((some_cluster base learned).replicas who)
@@ -209,7 +209,7 @@ some_idle base learned now long launch = record {
 pub some_ahead_of_base : (members : ℕ) × (leader : ℕ) × (best : List Vote) × (at : Progress) × (now : ℤ) × (cluster : Cluster) × (five : Cluster) × (who : ℕ) × IsIdle members leader best at now cluster × AreFiveRounds members leader at.table now cluster five × (who < members) × (prefix_of (cluster.replicas who) < at.prefix) × (at.base ≤ prefix_of (cluster.replicas who))
 some_ahead_of_base =
     let rounds = some_rounds 2 0 (minute 0) (some_cluster 0 (Noop ∷ [])) (omega arith) (coherent_two 0 (Noop ∷ [])) in
-    (2, 0, [], far 0, minute 0, some_cluster 0 (Noop ∷ []), rounds.five, 1, some_idle 0 (Noop ∷ []) (minute 0) refl ([], inr ((λ takes. takes), refl), refl), rounds.rounds, omega arith, omega arith, omega arith)
+    (2, 0, [], far 0, minute 0, some_cluster 0 (Noop ∷ []), rounds.five, 1, some_idle 0 (Noop ∷ []) (minute 0) refl (first_rows bare, inr ((λ takes. takes), refl), refl), rounds.rounds, omega arith, omega arith, omega arith)
 
 pub some_ahead_at_base : (members : ℕ) × (leader : ℕ) × (best : List Vote) × (at : Progress) × (now : ℤ) × (cluster : Cluster) × (five : Cluster) × (who : ℕ) × IsIdle members leader best at now cluster × AreFiveRounds members leader at.table now cluster five × (who < members) × (prefix_of (cluster.replicas who) < at.base)
 some_ahead_at_base =

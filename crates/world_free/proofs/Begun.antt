@@ -3,6 +3,7 @@ use Rattle.std.proofs.Common.{◌≡◌, ℕ, ◌+◌, ◌<◌, ◌^◌, true, L
 use Rattle.std.specs.List.{AllZip, slice_get}
 use Rattle.std.proofs.lemmas.List.{append-nil, length-map}
 use Rattle.std.proofs.lemmas.Option.{slice_get_within}
+use Rattle.launch_machine.specs.Clerk.{table_size}
 use Rattle.disk_model.specs.View.{DiskView}
 use Rattle.due_set.specs.Table.{Table}
 use Rattle.history.specs.Book.{PostedLetter, Row, Standing}
@@ -137,7 +138,7 @@ module _ {D : Type 0} (view : DiskView D) where
           identity = node.identity;
           state = λ runs. node.state (ap (λ (s : Standing). s.runs who) same ∙ runs) ∙ ap (λ (s : Standing). s.replicas who) same;
           kept = node.kept ∙ ap (λ (s : Standing). (s.replicas who).kept) same;
-          stand = subst (λ (s : Standing). FilesStand (length plan.table.jobs) (s.replicas who).kept (view.seen (disk_of job.node))) same node.stand;
+          stand = subst (λ (s : Standing). FilesStand (table_size plan.table) (s.replicas who).kept (view.seen (disk_of job.node))) same node.stand;
         }
 
     job_begins : IsJobAt view plan book who 0 job

@@ -6,7 +6,7 @@ use Rattle.std.proofs.lemmas.List.{append-nil, length-append, length-map}
 use Rattle.std.proofs.lemmas.List.Elements.{Contains-append_cases}
 use Rattle.std.proofs.lemmas.List.Sums.{fold-append}
 use Rattle.disk_model.specs.View.{DiskView}
-use Rattle.launch_machine.specs.Clerk.{first_rows}
+use Rattle.launch_machine.specs.Clerk.{first_rows, table_size}
 use Rattle.step_spec.specs.State.{State}
 use Rattle.step_spec.proofs.Lists.{nothing_in}
 use Rattle.agreement.specs.Transition.{identity_of}
@@ -332,7 +332,7 @@ module _ (plan : FreePlan) (count : ℕ) (seats : List Seat) (new : BookState) (
         identity = node.identity ∙ ap (λ n. identity_of n who) (sym closed.members);
         state = λ runs. absurd (let no : false ≡ true = sym stopped_there ∙ ap (λ (s : Standing). s.runs who) stands_there ∙ runs in cc);
         kept = node.kept ∙ ap (λ (s : State). s.kept) same;
-        stand = subst (λ (s : State). FilesStand (length plan.table.jobs) s.kept (view.seen (disk_of job.node))) same node.stand;
+        stand = subst (λ (s : State). FilesStand (table_size plan.table) s.kept (view.seen (disk_of job.node))) same node.stand;
       }
         where
           node : IsNodeOf view plan.table rows plan.book who job.node

@@ -4,9 +4,10 @@ use Rattle.std.proofs.Common.{append-nil as append_nil}
 use Rattle.std.specs.List.{AllZip, count_by, flat_map, slice_get}
 use Rattle.std.specs.Option.{option_to_list}
 use Rattle.std.proofs.lemmas.Bool.{cases_Bool}
+use Rattle.paxos_base.specs.declared.rows.TableSize.{TableSize}
 use Rattle.paxos_base.specs.declared.durable.Delta.{Delta}
 use Rattle.due_set.specs.Table.{Table}
-use Rattle.launch_machine.specs.Clerk.{first_rows}
+use Rattle.launch_machine.specs.Clerk.{first_rows, table_size}
 use Rattle.step_spec.specs.Folds.{deltas_of}
 use Rattle.step_spec.specs.Letters.{heard_in, is_small_letter}
 use Rattle.step_spec.specs.Step.{AsksOnce, Event, asks_change}
@@ -30,9 +31,9 @@ use Rattle.history.proofs.FrontLemmas.{follows_there as may_next}
 
 -- ---- what came of a turn
 
-heard_once : (n jobs : ℕ) (s : Standing) (who number : ℕ) (event : Event) → IsHeard n jobs s who number event → AsksOnce event
-heard_once n jobs s who number event heard =
-    let few : count_by asks_change (heard_in jobs heard.heard.packets) ≤ 1 = elim (cases_Bool (is_small_letter jobs heard.heard.packets)) [
+heard_once : (n : ℕ) (size : TableSize) (s : Standing) (who number : ℕ) (event : Event) → IsHeard n size s who number event → AsksOnce event
+heard_once n size s who number event heard =
+    let few : count_by asks_change (heard_in size heard.heard.packets) ≤ 1 = elim (cases_Bool (is_small_letter size heard.heard.packets)) [
       | inl small ↦ rw small (read-once n heard.letter.from heard.heard.packets heard.letter.bytes heard.heard.spells)
       | inr large ↦ rw large (omega arith)
     ] in
@@ -41,7 +42,7 @@ heard_once n jobs s who number event heard =
 asks_once : (n : ℕ) (table : Table) (s : Standing) (who : ℕ) (cause : Cause) (event : Event) → IsEventOfCause n table s who cause event → AsksOnce event
 asks_once n table s who Campaign event is = subst AsksOnce (sym is) tt
 asks_once n table s who (Tick now) event is = subst AsksOnce (sym is.2) tt
-asks_once n table s who (Hear number) event is = heard_once n (length table.jobs) s who number event is
+asks_once n table s who (Hear number) event is = heard_once n (table_size table) s who number event is
 asks_once n table s who Answer event is = subst AsksOnce (sym is.is) tt
 
 one_at_most : (deltas : List Delta) → length deltas ≤ 1 → (delta : Option Delta) × (option_to_list delta ≡ deltas)

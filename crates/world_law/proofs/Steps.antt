@@ -7,7 +7,7 @@ use Rattle.paxos_letter.proofs.LetterLemmas.{letter_again}
 use Rattle.zone_minutes.specs.declared.minute.Minute.{Minute}
 use Rattle.cluster_sched.specs.declared.row.SchedRow.{SchedRow}
 use Rattle.due_set.specs.Table.{Table}
-use Rattle.launch_machine.specs.Clerk.{first_rows}
+use Rattle.launch_machine.specs.Clerk.{first_rows, table_size}
 use Rattle.step_spec.specs.Act.{Act}
 use Rattle.step_spec.specs.Folds.{after_acts, letters_of}
 use Rattle.step_spec.specs.Letters.{IsHeardAs, IsSpelled}
@@ -47,21 +47,21 @@ posted_at table rows book number letter behind there =
 
 -- what is heard of a letter's bytes
 hears : (table : Table) (old : ReplicaState) (event : Event) (input : Input) (bytes : List ℕ) → IsLetterInput input bytes → IsEventOf table old input event
-    → (from : ℕ) × (messages : List Message) × IsHeardAs old.identity.members (length table.jobs) bytes from messages × (event ≡ heard.Hear from messages)
+    → (from : ℕ) × (messages : List Message) × IsHeardAs old.identity.members (table_size table) bytes from messages × (event ≡ heard.Hear from messages)
 hears table old event told.Campaign bytes is told = absurd is
 hears table old event (told.Tick now) bytes is told = absurd is
 hears table old event (told.Hear letter) bytes is told =
-    (told.0, told.1, subst (λ bytes. IsHeardAs old.identity.members (length table.jobs) bytes told.0 told.1) is told.2, told.3)
+    (told.0, told.1, subst (λ bytes. IsHeardAs old.identity.members (table_size table) bytes told.0 told.1) is told.2, told.3)
 hears table old event (told.Answer job at kind) bytes is told = absurd is
 
 is_heard : (table : Table) (rows : List Row) (book : BookState) (number : ℕ) (input : Input) (old : ReplicaState) (event : Event) → StandsBehind table rows book
     → StandsAt table rows book old → IsToldLetter book old.identity.me number input → IsEventOf table old input event
-    → IsHeard book.members (length table.jobs) (standing_behind table rows book) old.identity.me number event
+    → IsHeard book.members (table_size table) (standing_behind table rows book) old.identity.me number event
 is_heard table rows book number input old event behind at is told =
     let there = posted_at table rows book number is.letter behind is.there in
     let found = hears table old event input is.letter.bytes is.is told in
     let members : old.identity.members ≡ book.members = ap (λ (self : Identity). self.members) at.identity in
-    let mine : IsHeardAs book.members (length table.jobs) is.letter.bytes found.0 found.1 = subst (λ n. IsHeardAs n (length table.jobs) is.letter.bytes found.0 found.1) members found.2 in
+    let mine : IsHeardAs book.members (table_size table) is.letter.bytes found.0 found.1 = subst (λ n. IsHeardAs n (table_size table) is.letter.bytes found.0 found.1) members found.2 in
     let sender = (letter_again book.members found.0 mine.packets is.letter.bytes mine.spells).sender in
     let poster = posted_by book.members table rows (posted_as is.letter) behind.legal (found_in (standing_behind table rows book).posted number (posted_as is.letter) there) in
     let from : found.0 ≡ is.letter.from = sym sender ∙ poster in
@@ -70,7 +70,7 @@ is_heard table rows book number input old event behind at is told =
       there = there;
       to = is.to;
       messages = found.1;
-      heard = subst (λ from. IsHeardAs book.members (length table.jobs) is.letter.bytes from found.1) from mine;
+      heard = subst (λ from. IsHeardAs book.members (table_size table) is.letter.bytes from found.1) from mine;
       is = found.3 ∙ ap (λ from. heard.Hear from found.1) from;
     }
 

@@ -1,5 +1,7 @@
 -- The node of a replica that has no step left beside the book: it is that of the book's replica, and its files stand for what it keeps.
-use Rattle.std.proofs.Common.{◌≡◌, ℕ, true, false, List, [], length, sym, ap, ◌∙◌, subst}
+use Rattle.std.proofs.Common.{◌≡◌, ℕ, true, false, List, [], sym, ap, ◌∙◌, subst}
+use Rattle.paxos_base.specs.declared.rows.TableSize.{TableSize}
+use Rattle.launch_machine.specs.Clerk.{table_size}
 use Rattle.disk_model.specs.Images.{file_of}
 use Rattle.disk_model.specs.View.{DiskView}
 use Rattle.due_set.specs.Table.{Table}
@@ -20,12 +22,12 @@ use Rattle.world_steps.specs.Steps.{IsNodeAhead, IsNodeStopped}
 
 module _ {D : Type 0} (view : DiskView D) (table : Table) where
   -- the files of a node at rest stand for what its replica keeps
-  pub files_of : (node : Node D) (kept : Durable) → IsNodeAtRest view table node → (replica_of node).state.kept ≡ kept → FilesStand (length table.jobs) kept (view.seen (disk_of node))
+  pub files_of : (node : Node D) (kept : Durable) → IsNodeAtRest view table node → (replica_of node).state.kept ≡ kept → FilesStand (table_size table) kept (view.seen (disk_of node))
   files_of node kept rest is =
-      stands_in (length table.jobs) kept (view.seen (disk_of node)) (area_of (store_of node)) (records_of (store_of node)) rest.rests.selects
+      stands_in (table_size table) kept (view.seen (disk_of node)) (area_of (store_of node)) (records_of (store_of node)) rest.rests.selects
       (has_at_rest (file_of (area_of (store_of node)) (view.seen (disk_of node))) (records_of (store_of node)) rest.rests.gates.at_rest)
-      (subst (λ (kept : Durable). BodiesStand (length table.jobs) (records_of (store_of node)) kept) is
-      (subst (λ (jobs : ℕ). BodiesStand jobs (records_of (store_of node)) (replica_of node).state.kept) rest.jobs rest.keeps))
+      (subst (λ (kept : Durable). BodiesStand (table_size table) (records_of (store_of node)) kept) is
+      (subst (λ (size : TableSize). BodiesStand size (records_of (store_of node)) (replica_of node).state.kept) rest.size rest.keeps))
 
   pub running_node : (rows : List Row) (book : BookState) (who : ℕ) (node : Node D) → IsNodeAhead view table rows book who [] node
       → IsNodeOf view table rows book who node

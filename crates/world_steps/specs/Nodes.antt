@@ -1,5 +1,6 @@
 -- The nodes of a book's replicas, and their disks.
 use Rattle.std.specs.Prelude.{◌≡◌, ℕ, true, List, length, Some, slice_get}
+use Rattle.launch_machine.specs.Clerk.{table_size}
 use Rattle.disk_model.specs.View.{DiskView}
 use Rattle.due_set.specs.Table.{Table}
 use Rattle.agreement.specs.Transition.{identity_of}
@@ -33,7 +34,7 @@ pub record IsNodeOf {D : Type 0} (view : DiskView D) (table : Table) (rows : Lis
   pub identity : (replica_of node).identity ≡ identity_of book.members who
   pub state : (standing_behind table rows book).runs who ≡ true → (replica_of node).state ≡ (standing_behind table rows book).replicas who
   pub kept : (replica_of node).state.kept ≡ ((standing_behind table rows book).replicas who).kept
-  pub stand : FilesStand (length table.jobs) ((standing_behind table rows book).replicas who).kept (view.seen (disk_of node))
+  pub stand : FilesStand (table_size table) ((standing_behind table rows book).replicas who).kept (view.seen (disk_of node))
 
 -- **The nodes are those of the book's replicas**: one of each, in the order of their numbers.
 pub record AreNodesOf {D : Type 0} (view : DiskView D) (table : Table) (rows : List Row) (book : BookState) (nodes : List (Node D)) : Type 0 where

@@ -1,4 +1,5 @@
 use Rattle.std.proofs.Common.{length}
+use Rattle.launch_machine.specs.Clerk.{table_size}
 use Rattle.step_spec.specs.Step.{step}
 use Rattle.durable_changes.proofs.Changes.{changes_follow}
 use Rattle.step_spec.proofs.Said.{setting_of, step_may_be_done}
@@ -6,4 +7,4 @@ use Rattle.durable_changes.proofs.laws.a_change_may_follow_what_is_kept.Goals as
 
 pub returns : goal.returns
 returns c self table event state change few coherent planned is base =
-    changes_follow (setting_of self table event) (length table.jobs) (step self event state) state change coherent (step_may_be_done self table event state few coherent planned) is base
+    changes_follow (setting_of self table event) (table_size table) (step self event state) state change coherent (step_may_be_done self table event state few coherent planned) is base

@@ -1,8 +1,9 @@
-use Rattle.std.proofs.Common.{◌<◌, length, get_or, arith}
+use Rattle.std.proofs.Common.{◌≡◌, ◌<◌, ℕ, None, length, get_or, sym, subst, arith}
+use Rattle.paxos_base.specs.declared.rows.JobRow.{JobRow}
 use Rattle.std.proofs.lemmas.Option.{slice_get-get_or}
 use Rattle.paxos_base.specs.Rows.{fresh_row}
 use Rattle.launch_machine.specs.Machine.{IsCallBeside}
-use Rattle.launch_machine.proofs.MachineLemmas.{beside_all, beside_push, beside_built}
+use Rattle.launch_machine.proofs.MachineLemmas.{beside_built, beside_push, beside_table, table_calls}
 use Rattle.launch_machine.proofs.next.calls_of.Goals as goal
 
 pub loop-job-preserved : goal.loop-job-preserved
@@ -14,5 +15,9 @@ loop-job-preserved c =
 
 pub returns : goal.returns
 returns c =
-    beside_built (IsCallBeside c.args.table.now) c.args.rows.now c.deref.result.now c.build.result c.build.ensures
-    (rw c.deref.ensures.value (beside_all (IsCallBeside c.args.table.now) c.args.rows.now c.loop-job.calls.items c.loop-job.job c.loop-job.invariant (omega (arith, c.requires, c.jobs-job-end.ensures.count))))
+    let table = c.args.table.now in
+    let rows = c.args.rows.now in
+    let last : c.loop-job.job ≡ length table.jobs = omega (arith, c.jobs-job-end.ensures.count) in
+    let none : (row : JobRow) → IsCallBeside table c.loop-job.job row None = λ row. subst (λ (k : ℕ). IsCallBeside table k row None) (sym last) (table_calls table row) in
+    let known = beside_table (IsCallBeside table) rows c.loop-job.calls.items c.loop-job.job c.loop-job.invariant (omega (arith, c.requires, last)) none in
+    beside_built (IsCallBeside table) rows c.deref.result.now c.build.result c.build.ensures (rw c.deref.ensures.value (rw c.in_ok-push-2.ensures.items known))

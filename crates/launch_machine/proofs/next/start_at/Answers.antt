@@ -7,7 +7,7 @@ use Rattle.paxos_base.specs.declared.rows.JobRow.{JobRow}
 use Rattle.due_set.proofs.TableLemmas.{IfNone-map}
 use Rattle.paxos_base.specs.Rows.{fresh_row}
 use Rattle.launch_machine.specs.Clerk.{MayStart, TakesStart}
-use Rattle.launch_machine.proofs.MachineLemmas.{IfSome-map, same_row}
+use Rattle.launch_machine.proofs.MachineLemmas.{IfSome-map, same_row, start_within}
 use Rattle.launch_machine.proofs.NextLemmas.{idle_first, no_start_before, start_none}
 use Rattle.launch_machine.proofs.next.start_at.Goals as goal
 
@@ -18,6 +18,15 @@ launch_at-requires-clause-first c =
     let beside = idle_first c.args.table.now c.args.rows.now c.args.starts.now c.args.job (get_or c.args.rows.now c.args.job (fresh_row 0)) c.in-Some.first c.requires.starts
     (slice_get-get_or c.args.rows.now c.args.job (fresh_row 0) lt) (c.get.ensures ∙ ap Some c.in-Some.is) in
     simp to_z-of_z beside.is_first
+
+pub launch_at-requires-clause-job : goal.launch_at-requires-clause-job
+launch_at-requires-clause-job c =
+    let lt : c.args.job < length c.args.rows.now = omega (arith, c.if-place-rows.false) in
+    let first_fits : FitsSigned w64 c.in-Some.first = omega (arith, ints) in
+    let row : JobRow = get_or c.args.rows.now c.args.job (fresh_row 0) in
+    let beside = idle_first c.args.table.now c.args.rows.now c.args.starts.now c.args.job row c.in-Some.first c.requires.starts
+    (slice_get-get_or c.args.rows.now c.args.job (fresh_row 0) lt) (c.get.ensures ∙ ap Some c.in-Some.is) in
+    start_within c.args.table.now c.args.job row beside.is_first.at c.in-Some.first beside.is_first.may
 
 pub returns-in-Some-clause-found : goal.returns-in-Some-clause-found
 returns-in-Some-clause-found c =

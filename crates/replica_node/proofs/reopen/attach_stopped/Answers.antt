@@ -17,13 +17,13 @@ use Rattle.replica_node.proofs.reopen.attach_stopped.Goals as goal
 pub returns-in_err-attach-clause-sound : goal.returns-in_err-attach-clause-sound
 returns-in_err-attach-clause-sound g c before after gate honest recoverable is =
     c.attach.ensures.sound before after gate (c.revive.ensures.honest.1 honest)
-    (fewer_recoverable c.args.jobs before after (g.D.Disk.view.may_leave c.args.disk.now) (g.D.Disk.view.may_leave c.revive.new.self) (c.revive.ensures.no_new_image honest) recoverable)
+    (fewer_recoverable c.args.size before after (g.D.Disk.view.may_leave c.args.disk.now) (g.D.Disk.view.may_leave c.revive.new.self) (c.revive.ensures.no_new_image honest) recoverable)
     (damaged_below c.in_err-attach.field-0.0 gate c.attach.result c.from_residual.result c.in_err-attach.was c.from_residual.ensures.1 is)
 
 pub returns-in_err-attach-clause-recoverable : goal.returns-in_err-attach-clause-recoverable
 returns-in_err-attach-clause-recoverable g c before after honest recoverable =
     c.attach.ensures.recoverable before after (c.revive.ensures.honest.1 honest)
-    (fewer_recoverable c.args.jobs before after (g.D.Disk.view.may_leave c.args.disk.now) (g.D.Disk.view.may_leave c.revive.new.self) (c.revive.ensures.no_new_image honest) recoverable)
+    (fewer_recoverable c.args.size before after (g.D.Disk.view.may_leave c.args.disk.now) (g.D.Disk.view.may_leave c.revive.new.self) (c.revive.ensures.no_new_image honest) recoverable)
 
 pub returns-in_err-attach-clause-damaged : goal.returns-in_err-attach-clause-damaged
 returns-in_err-attach-clause-damaged g c gate bodies is has =
@@ -88,7 +88,7 @@ returns-clause-quiet g c =
 pub returns-clause-image : goal.returns-clause-image
 returns-clause-image g c told is =
     let mid = c.revive.new.self in
-    subst (λ (image : Image). FilesStand c.args.jobs c.in_ok-attach.field-0.1 image)
+    subst (λ (image : Image). FilesStand c.args.size c.in_ok-attach.field-0.1 image)
     (revived_seen (g.D.Disk.view.told c.args.disk.now) (g.D.Disk.view.told mid) told (g.D.Disk.view.seen mid) (g.met.D.ArmedDisk.tells mid) c.requires.stopped c.revive.ensures.told is (g.met.D.Disk.done_is_seen mid)) c.in_ok-attach.ensures.stand
 
 pub returns-clause-area : goal.returns-clause-area
@@ -99,12 +99,12 @@ returns-clause-area g c told is =
 pub returns-clause-either : goal.returns-clause-either
 returns-clause-either g c before after honest recoverable =
     c.in_ok-attach.ensures.either before after (c.revive.ensures.honest.1 honest)
-    (fewer_recoverable c.args.jobs before after (g.D.Disk.view.may_leave c.args.disk.now) (g.D.Disk.view.may_leave c.revive.new.self) (c.revive.ensures.no_new_image honest) recoverable)
+    (fewer_recoverable c.args.size before after (g.D.Disk.view.may_leave c.args.disk.now) (g.D.Disk.view.may_leave c.revive.new.self) (c.revive.ensures.no_new_image honest) recoverable)
 
 pub returns-clause-recoverable : goal.returns-clause-recoverable
 returns-clause-recoverable g c before after honest recoverable =
     c.attach.ensures.recoverable before after (c.revive.ensures.honest.1 honest)
-    (fewer_recoverable c.args.jobs before after (g.D.Disk.view.may_leave c.args.disk.now) (g.D.Disk.view.may_leave c.revive.new.self) (c.revive.ensures.no_new_image honest) recoverable)
+    (fewer_recoverable c.args.size before after (g.D.Disk.view.may_leave c.args.disk.now) (g.D.Disk.view.may_leave c.revive.new.self) (c.revive.ensures.no_new_image honest) recoverable)
 
 pub returns-clause-clean : goal.returns-clause-clean
 returns-clause-clean g c =

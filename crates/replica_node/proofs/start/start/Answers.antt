@@ -1,5 +1,6 @@
-use Rattle.std.proofs.Common.{ℕ, ◌∙◌, subst, length}
+use Rattle.std.proofs.Common.{◌∙◌, subst, length}
 use Rattle.replica_store.specs.Store.{area_of}
+use Rattle.paxos_base.specs.declared.rows.TableSize.{TableSize}
 use Rattle.gate_file.specs.File.{bodies_of}
 use Rattle.paxos_base.specs.Rows.{RowsStand}
 use Rattle.replica_node.proofs.AttachedLemmas.{fit_to_start}
@@ -16,14 +17,14 @@ use Rattle.replica_node.proofs.start.start.Goals as goal
 
 pub returns-in_err-store-clause-sound : goal.returns-in_err-store-clause-sound
 returns-in_err-store-clause-sound g c before after gate honest recoverable is =
-    c.attach.ensures.sound before after gate honest (rw c.jobs.ensures.count recoverable) (damaged_below c.in_err-store.field-0.0 gate c.attach.result c.from_residual.result c.in_err-store.was c.from_residual.ensures.1 is)
+    c.attach.ensures.sound before after gate honest (rw c.table_size.ensures.size recoverable) (damaged_below c.in_err-store.field-0.0 gate c.attach.result c.from_residual.result c.in_err-store.was c.from_residual.ensures.1 is)
 
 pub returns-in_err-store-clause-images : goal.returns-in_err-store-clause-images
-returns-in_err-store-clause-images g c = rw (← c.jobs.ensures.count) c.attach.ensures.images
+returns-in_err-store-clause-images g c = rw (← c.table_size.ensures.size) c.attach.ensures.images
 
 pub returns-in_err-store-clause-damaged : goal.returns-in_err-store-clause-damaged
 returns-in_err-store-clause-damaged g c gate bodies is has =
-    rw (← c.jobs.ensures.count) (c.attach.ensures.damaged gate bodies (damaged_below c.in_err-store.field-0.0 gate c.attach.result c.from_residual.result c.in_err-store.was c.from_residual.ensures.1 is) has)
+    rw (← c.table_size.ensures.size) (c.attach.ensures.damaged gate bodies (damaged_below c.in_err-store.field-0.0 gate c.attach.result c.from_residual.result c.in_err-store.was c.from_residual.ensures.1 is) has)
 
 -- ---- the replica
 
@@ -32,33 +33,33 @@ start-requires-clause-rows g c =
     let store = c.in_ok-store.store in
     let kept = c.in_ok-store.kept in
     let keeps = c.in_ok-store.ensures.keeps in
-    let fit = fit_to_start store.jobs (bodies_of store.gates) kept keeps.0 keeps.1 in
-    subst (λ (jobs : ℕ). RowsStand kept.rows jobs) (c.in_ok-store.ensures.jobs ∙ c.jobs.ensures.count) fit.rows
+    let fit = fit_to_start store.size (bodies_of store.gates) kept keeps.0 keeps.1 in
+    subst (λ (size : TableSize). RowsStand kept.rows size) (c.in_ok-store.ensures.size ∙ c.table_size.ensures.size) fit.rows
 
 pub start-requires-clause-tried : goal.start-requires-clause-tried
 start-requires-clause-tried g c =
     let store = c.in_ok-store.store in
     let keeps = c.in_ok-store.ensures.keeps in
-    let fit = fit_to_start store.jobs (bodies_of store.gates) c.in_ok-store.kept keeps.0 keeps.1 in
+    let fit = fit_to_start store.size (bodies_of store.gates) c.in_ok-store.kept keeps.0 keeps.1 in
     fit.tried
 
 pub returns-in_err-replica-clause-images : goal.returns-in_err-replica-clause-images
-returns-in_err-replica-clause-images g c = rw (← c.jobs.ensures.count) c.attach.ensures.images
+returns-in_err-replica-clause-images g c = rw (← c.table_size.ensures.size) c.attach.ensures.images
 
 pub returns-in_err-replica-clause-recoverable : goal.returns-in_err-replica-clause-recoverable
-returns-in_err-replica-clause-recoverable g c = rw (← c.jobs.ensures.count) c.attach.ensures.recoverable
+returns-in_err-replica-clause-recoverable g c = rw (← c.table_size.ensures.size) c.attach.ensures.recoverable
 
 -- ---- it starts
 
 pub returns-clause-either : goal.returns-clause-either
 returns-clause-either g c before after honest recoverable =
-    rw c.in_ok-replica.ensures.state (c.in_ok-store.ensures.either before after honest (rw c.jobs.ensures.count recoverable))
+    rw c.in_ok-replica.ensures.state (c.in_ok-store.ensures.either before after honest (rw c.table_size.ensures.size recoverable))
 
 pub returns-clause-images : goal.returns-clause-images
-returns-clause-images g c = rw (← c.jobs.ensures.count) c.attach.ensures.images
+returns-clause-images g c = rw (← c.table_size.ensures.size) c.attach.ensures.images
 
 pub returns-clause-recoverable : goal.returns-clause-recoverable
-returns-clause-recoverable g c = rw (← c.jobs.ensures.count) c.attach.ensures.recoverable
+returns-clause-recoverable g c = rw (← c.table_size.ensures.size) c.attach.ensures.recoverable
 
 pub returns-clause-clean : goal.returns-clause-clean
 returns-clause-clean g c tells =

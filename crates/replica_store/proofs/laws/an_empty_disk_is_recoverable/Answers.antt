@@ -5,4 +5,4 @@ pub returns-clause-stands : goal.returns-clause-stands
 returns-clause-stands g c = empty_stands
 
 pub returns-clause-recoverable : goal.returns-clause-recoverable
-returns-clause-recoverable g c disk jobs empty = empty_recoverable jobs (g.D.Disk.view.may_leave disk) empty
+returns-clause-recoverable g c disk size empty = empty_recoverable size (g.D.Disk.view.may_leave disk) empty

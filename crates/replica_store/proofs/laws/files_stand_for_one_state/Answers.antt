@@ -6,4 +6,4 @@ pub returns-clause-files : goal.returns-clause-files
 returns-clause-files c = files_stand_for_one
 
 pub returns-clause-store : goal.returns-clause-store
-returns-clause-store c store one other first second = bodies_stand_for_one store.jobs (bodies_of store.gates) one other first second
+returns-clause-store c store one other first second = bodies_stand_for_one store.size (bodies_of store.gates) one other first second

@@ -41,5 +41,5 @@ pub returns-clause-ready : goal.returns-clause-ready
 returns-clause-ready g c = record {
   may = subst (MayShow c.args.table.now) (sym c.in_ok-watch.ensures.writer) c.in_ok-parts.ensures.may_show;
   board = c.in_ok-watch.ensures.board ∙ ap (λ (w : Writing). w.board) (sym c.in_ok-watch.ensures.writer);
-  jobs = c.in_ok-watch.ensures.jobs;
+  total = c.in_ok-watch.ensures.total;
 }

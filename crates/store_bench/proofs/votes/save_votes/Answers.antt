@@ -13,7 +13,7 @@ save-requires-clause-follows c kept keeps =
     let ballot = c.unwrap_or-ballot.result in
     let slot = c.loop-slot.slot in
     let below : takes.0.base ≤ slot = omega (arith, takes.1.1.1, c.loop-slot.auto.slot) in
-    subst (λ (durable : Durable). IsAtLeast ballot durable.promised × (durable.base ≤ slot)) (bodies_stand_for_one store.jobs (bodies_of store.gates) takes.0 kept takes.1.0 keeps) (takes.1.1.0, below)
+    subst (λ (durable : Durable). IsAtLeast ballot durable.promised × (durable.base ≤ slot)) (bodies_stand_for_one store.size (bodies_of store.gates) takes.0 kept takes.1.0 keeps) (takes.1.1.0, below)
 
 pub loop-slot-preserved : goal.loop-slot-preserved
 unfolding after_delta

@@ -19,5 +19,5 @@ returns-clause-bodies c =
     AreRecords-bytes c.put_votes_from.new.bodies.items (base_records c.args.kept.now c.args.own c.args.slot c.args.rows.now) (written c)
 
 pub returns-clause-stand : goal.returns-clause-stand
-returns-clause-stand c jobs sound stand =
-    base_stand_for jobs c.put_votes_from.new.bodies.items c.args.kept.now c.args.own c.args.slot c.args.rows.now (written c) sound stand
+returns-clause-stand c size sound stand =
+    base_stand_for size c.put_votes_from.new.bodies.items c.args.kept.now c.args.own c.args.slot c.args.rows.now (written c) sound stand

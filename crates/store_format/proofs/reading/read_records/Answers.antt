@@ -1,4 +1,4 @@
-use Rattle.std.proofs.Common.{◌≡◌, ℕ, ◌+◌, ◌<◌, List, [], ◌∷◌, ◌++◌, refl, length, take, get_or, sym, ap, subst, ◌∙◌}
+use Rattle.std.proofs.Common.{◌≡◌, ℕ, ◌+◌, ◌<◌, List, [], ◌∷◌, ◌++◌, refl, length, take, get_or, sym, ap, subst, ◌∙◌, arith}
 use Rattle.std.proofs.lemmas.Bool.{false≢true}
 use Rattle.std.proofs.lemmas.List.{take_more, get_or_read}
 use Rattle.std.proofs.lemmas.Option.{none-some}
@@ -16,33 +16,33 @@ up_to bodies k item body within is same =
     take_more bodies k [] within ∙ ap (λ (last : List ℕ). take k bodies ++ last ∷ []) (sym (same ∙ get_or_read bodies k item within is []))
 
 -- a body that is no record
-unread : (c : After-drop-reader-in_default) → IsFirstRecordAtFault c.args.jobs c.args.bodies.now c.loop-number.number
+unread : (c : After-drop-reader-in_default) → IsFirstRecordAtFault c.args.size c.args.bodies.now c.loop-number.number
 unread c =
     let bodies = c.args.bodies.now in
     let k = c.loop-number.number in
-    fault_here c.args.jobs bodies k c.loop-number.reader.place c.loop-number.reader.kept c.loop-number.reader.own c.body.inside.bytes c.ranges.jobs.fits c.loop-number-test.true (up_to bodies k c.index-bodies-number.result c.body.inside.bytes c.loop-number-test.true c.index-bodies-number.is c.body.view_is) c.loop-number.invariant
+    fault_here c.args.size bodies k c.loop-number.reader.place c.loop-number.reader.kept c.loop-number.reader.own c.body.inside.bytes (omega (arith, c.well_formed)) c.loop-number-test.true (up_to bodies k c.index-bodies-number.result c.body.inside.bytes c.loop-number-test.true c.index-bodies-number.is c.body.view_is) c.loop-number.invariant
     (λ item is. absurd (none-some item (c.in_default.ensures.only item is)))
 
 pub returns-in_default-clause-damaged : goal.returns-in_default-clause-damaged
 returns-in_default-clause-damaged c j same =
     let number : c.loop-number.number ≡ j = cc same in
-    subst (IsFirstRecordAtFault c.args.jobs c.args.bodies.now) number (unread c)
+    subst (IsFirstRecordAtFault c.args.size c.args.bodies.now) number (unread c)
 
 pub returns-in_default-clause-only : goal.returns-in_default-clause-only
 returns-in_default-clause-only c kept own stand = absurd ((unread c).for_none kept own stand)
 
 -- a record that can't come next
-unfit : (c : After-drop-reader-in_default-next-2) → IsFirstRecordAtFault c.args.jobs c.args.bodies.now c.loop-number.number
+unfit : (c : After-drop-reader-in_default-next-2) → IsFirstRecordAtFault c.args.size c.args.bodies.now c.loop-number.number
 unfit c =
     let bodies = c.args.bodies.now in
     let k = c.loop-number.number in
-    fault_here c.args.jobs bodies k c.loop-number.reader.place c.loop-number.reader.kept c.loop-number.reader.own c.body.inside.bytes c.ranges.jobs.fits c.loop-number-test.true (up_to bodies k c.index-bodies-number.result c.body.inside.bytes c.loop-number-test.true c.index-bodies-number.is c.body.view_is) c.loop-number.invariant
-    (λ other is. ap (next_place c.args.jobs c.loop-number.reader.place c.loop-number.reader.kept) (IsRecord-same c.body.inside.bytes other c.in-Some.item is c.in-Some.ensures.found) ∙ sym c.in_default-next.ensures)
+    fault_here c.args.size bodies k c.loop-number.reader.place c.loop-number.reader.kept c.loop-number.reader.own c.body.inside.bytes (omega (arith, c.well_formed)) c.loop-number-test.true (up_to bodies k c.index-bodies-number.result c.body.inside.bytes c.loop-number-test.true c.index-bodies-number.is c.body.view_is) c.loop-number.invariant
+    (λ other is. ap (next_place c.args.size c.loop-number.reader.place c.loop-number.reader.kept) (IsRecord-same c.body.inside.bytes other c.in-Some.item is c.in-Some.ensures.found) ∙ sym c.in_default-next.ensures)
 
 pub returns-in_default-next-clause-damaged : goal.returns-in_default-next-clause-damaged
 returns-in_default-next-clause-damaged c j same =
     let number : c.loop-number.number ≡ j = cc same in
-    subst (IsFirstRecordAtFault c.args.jobs c.args.bodies.now) number (unfit c)
+    subst (IsFirstRecordAtFault c.args.size c.args.bodies.now) number (unfit c)
 
 pub returns-in_default-next-clause-only : goal.returns-in_default-next-clause-only
 returns-in_default-next-clause-only c kept own stand = absurd ((unfit c).for_none kept own stand)
@@ -52,31 +52,31 @@ loop-number-preserved c =
     let bodies = c.args.bodies.now in
     let k = c.loop-number.number in
     rw (up_to bodies k c.index-bodies-number.result c.body.inside.bytes c.loop-number-test.true c.index-bodies-number.is c.body.view_is, c.in_ok-take.ensures.place, c.in_ok-take.ensures.kept, c.in_ok-take.ensures.own)
-    (Behind-next c.args.jobs (take k bodies) c.loop-number.reader.place c.in-Some-next.place c.loop-number.reader.kept c.loop-number.reader.own c.body.inside.bytes c.in-Some.item c.loop-number.invariant c.in-Some.ensures.found (sym c.in-Some-next.ensures))
+    (Behind-next c.args.size (take k bodies) c.loop-number.reader.place c.in-Some-next.place c.loop-number.reader.kept c.loop-number.reader.own c.body.inside.bytes c.in-Some.item c.loop-number.invariant c.in-Some.ensures.found (sym c.in-Some-next.ensures))
 
 pub returns-then-is_in_group-clause-damaged : goal.returns-then-is_in_group-clause-damaged
 returns-then-is_in_group-clause-damaged c j same =
     let number : length c.args.bodies.now ≡ j = cc same in
-    subst (IsFirstRecordAtFault c.args.jobs c.args.bodies.now) number
-    (broken_off c.args.jobs c.args.bodies.now c.loop-number.number c.loop-number.reader.place c.loop-number.reader.kept c.loop-number.reader.own c.ranges.jobs.fits c.loop-number-test.false c.loop-number.invariant (c.if-is_in_group.ensures.0 refl))
+    subst (IsFirstRecordAtFault c.args.size c.args.bodies.now) number
+    (broken_off c.args.size c.args.bodies.now c.loop-number.number c.loop-number.reader.place c.loop-number.reader.kept c.loop-number.reader.own (omega (arith, c.well_formed)) c.loop-number-test.false c.loop-number.invariant (c.if-is_in_group.ensures.0 refl))
 
 pub returns-then-is_in_group-clause-only : goal.returns-then-is_in_group-clause-only
 returns-then-is_in_group-clause-only c kept own stand =
-    let fault = broken_off c.args.jobs c.args.bodies.now c.loop-number.number c.loop-number.reader.place c.loop-number.reader.kept c.loop-number.reader.own c.ranges.jobs.fits c.loop-number-test.false c.loop-number.invariant (c.if-is_in_group.ensures.0 refl) in
+    let fault = broken_off c.args.size c.args.bodies.now c.loop-number.number c.loop-number.reader.place c.loop-number.reader.kept c.loop-number.reader.own (omega (arith, c.well_formed)) c.loop-number-test.false c.loop-number.invariant (c.if-is_in_group.ensures.0 refl) in
     absurd (fault.for_none kept own stand)
 
 -- what was read
-whole : (c : Else-is_in_group) → StandFor c.args.jobs c.args.bodies.now c.loop-number.reader.kept c.loop-number.reader.own
+whole : (c : Else-is_in_group) → StandFor c.args.size c.args.bodies.now c.loop-number.reader.kept c.loop-number.reader.own
 whole c =
-    all_read c.args.jobs c.args.bodies.now c.loop-number.number c.loop-number.reader.place c.loop-number.reader.kept c.loop-number.reader.own c.loop-number-test.false c.loop-number.invariant
+    all_read c.args.size c.args.bodies.now c.loop-number.number c.loop-number.reader.place c.loop-number.reader.kept c.loop-number.reader.own c.loop-number-test.false c.loop-number.invariant
     (λ is_rows. false≢true (c.if-is_in_group.ensures.1 is_rows))
 
 pub returns-clause-found : goal.returns-clause-found
 returns-clause-found c = whole c
 
 pub returns-clause-sound : goal.returns-clause-sound
-returns-clause-sound c = StandFor-sound c.args.jobs c.args.bodies.now c.loop-number.reader.kept c.loop-number.reader.own (whole c)
+returns-clause-sound c = StandFor-sound c.args.size c.args.bodies.now c.loop-number.reader.kept c.loop-number.reader.own (whole c)
 
 pub returns-clause-only : goal.returns-clause-only
 returns-clause-only c kept own stand =
-    StandFor-same c.args.jobs c.args.bodies.now c.loop-number.reader.kept kept c.loop-number.reader.own own (whole c) stand
+    StandFor-same c.args.size c.args.bodies.now c.loop-number.reader.kept kept c.loop-number.reader.own own (whole c) stand

@@ -1,8 +1,9 @@
-use Rattle.std.proofs.Common.{length, refl, sym, ap, ◌∙◌, subst}
+use Rattle.std.proofs.Common.{refl, sym, ap, ◌∙◌, subst}
 use Rattle.replica_store.specs.Files.{IsRecoverable, selected}
 use Rattle.replica_node.specs.Node.{fault_of, replica_of}
 use Rattle.replica_node.specs.Reliable.{IsReliable}
 use Rattle.replica_node.proofs.RestLemmas.{recoverable_at_rest}
+use Rattle.launch_machine.specs.Clerk.{table_size}
 use Rattle.step_spec.specs.State.{started}
 use Rattle.world_steps.proofs.MemoryLemmas.{memory_alone}
 use Rattle.world_steps.proofs.Stopping.{and_some}
@@ -15,7 +16,7 @@ returns-in-Ok g c =
     let trusted : g.D.Disk.view.honest c.into_disk.result = subst g.D.Disk.view.honest (sym c.into_disk.ensures) c.requires.trusted in
     let recoverable = recoverable_at_rest g.D.Disk.view c.args.table.now c.args.stopped.node c.requires.at_rest c.requires.trusted in
     let found =
-    c.in-Ok.ensures.either kept kept trusted (subst (λ disk. IsRecoverable (length c.args.table.now.jobs) kept kept (g.D.Disk.view.may_leave disk)) (sym c.into_disk.ensures) recoverable) in
+    c.in-Ok.ensures.either kept kept trusted (subst (λ disk. IsRecoverable (table_size c.args.table.now) kept kept (g.D.Disk.view.may_leave disk)) (sym c.into_disk.ensures) recoverable) in
     record {
       at_rest = c.in-Ok.ensures.at_rest;
       trusted = c.in-Ok.ensures.answer.honest_still.1 trusted;
@@ -38,7 +39,7 @@ memory_of-requires g c =
     let kept = (replica_of c.args.stopped.node).state.kept in
     let trusted : g.D.Disk.view.honest c.into_disk.result = subst g.D.Disk.view.honest (sym c.into_disk.ensures) c.requires.trusted in
     let here = recoverable_at_rest g.D.Disk.view c.args.table.now c.args.stopped.node c.requires.at_rest c.requires.trusted in
-    let recoverable = subst (λ disk. IsRecoverable (length c.args.table.now.jobs) kept kept (g.D.Disk.view.may_leave disk)) (sym c.into_disk.ensures) here in
+    let recoverable = subst (λ disk. IsRecoverable (table_size c.args.table.now) kept kept (g.D.Disk.view.may_leave disk)) (sym c.into_disk.ensures) here in
     record {
       alone = memory_alone (fault_of c.recover.result) c.in-Err.fault (ap fault_of c.in-Err.is)
           (c.recover.ensures.unended (subst (λ disk. IsReliable (g.D.Disk.view.told disk)) (sym c.into_disk.ensures) c.requires.reliable))

@@ -1,5 +1,5 @@
-use Rattle.std.proofs.Common.{length, refl, ap, ◌∙◌}
-use Rattle.launch_machine.specs.Clerk.{first_rows}
+use Rattle.std.proofs.Common.{refl, ap, ◌∙◌}
+use Rattle.launch_machine.specs.Clerk.{first_rows, table_size}
 use Rattle.step_spec.specs.State.{started}
 use Rattle.agreement.specs.World.{fresh}
 use Rattle.replica_store.proofs.FileLemmas.{empty_recoverable}
@@ -13,7 +13,7 @@ pub returns-in-Ok : goal.returns-in-Ok
 returns-in-Ok g c =
     let start = fresh (first_rows c.args.table.now) in
     let found =
-    c.in-Ok.ensures.either start start c.requires.fresh.trusted (empty_recoverable (length c.args.table.now.jobs) (g.D.Disk.view.may_leave c.args.disk) c.requires.fresh.empty) in
+    c.in-Ok.ensures.either start start c.requires.fresh.trusted (empty_recoverable (table_size c.args.table.now) (g.D.Disk.view.may_leave c.args.disk) c.requires.fresh.empty) in
     record {
       at_rest = c.in-Ok.ensures.at_rest;
       trusted = c.in-Ok.ensures.answer.honest_still.1 c.requires.fresh.trusted;
@@ -36,7 +36,7 @@ returns-in-Ok g c =
 pub memory_of-requires : goal.memory_of-requires
 memory_of-requires g c =
     let start = fresh (first_rows c.args.table.now) in
-    let empty = empty_recoverable (length c.args.table.now.jobs) (g.D.Disk.view.may_leave c.args.disk) c.requires.fresh.empty in
+    let empty = empty_recoverable (table_size c.args.table.now) (g.D.Disk.view.may_leave c.args.disk) c.requires.fresh.empty in
     record {
       alone = memory_alone (fault_of c.recover.result) c.in-Err.fault (ap fault_of c.in-Err.is) (c.recover.ensures.unended c.requires.fresh.reliable)
           (λ gate. c.recover.ensures.sound start start gate c.requires.fresh.trusted empty) c.recover.ensures.no_letter;

@@ -10,6 +10,7 @@ use Rattle.replica_node.specs.Kept.{IsAnsweredByArm, KeepsChange, LeavesByArm, a
 use Rattle.replica_node.proofs.ReliableLemmas.{reliable_unfailing}
 use Rattle.replica_node.specs.Node.{IsChangeOf, disk_of, replica_of, store_of}
 use Rattle.replica_store.specs.Store.{area_of}
+use Rattle.launch_machine.specs.Clerk.{table_size}
 use Rattle.step_spec.specs.State.{State}
 use Rattle.world_steps.proofs.MemoryLemmas.{cause_breaks_none, memory_unless_stopped, no_letter}
 use Rattle.world_steps.proofs.StepLemmas.{ahead_small, beside_next, change_in}
@@ -70,8 +71,8 @@ returns-in-Ok-attach_again g c = record {
       let honest = c.handle.ensures.answer.honest_still.1 (c.arm.ensures.honest.1 beside.ahead.trusted) in
       let alike : IsSameReplica (replica_of c.handle.new.self) (replica_of c.arm.new.self) = c.in-Err.ensures.alike in
       let left = c.handle.ensures.kept_by_arm stop.change c.args.arm within.change_of stopped clean armed in
-      let leaves : LeavesByArm (length c.args.table.now.jobs) (area_of (store_of c.arm.new.self)) (replica_of c.handle.new.self).state.kept stop.change c.args.arm (g.D.Disk.view.told (disk_of c.handle.new.self)) =
-      subst (λ (state : State). LeavesByArm (length c.args.table.now.jobs) (area_of (store_of c.arm.new.self)) state.kept stop.change c.args.arm (g.D.Disk.view.told (disk_of c.handle.new.self))) (sym alike.state) left in
+      let leaves : LeavesByArm (table_size c.args.table.now) (area_of (store_of c.arm.new.self)) (replica_of c.handle.new.self).state.kept stop.change c.args.arm (g.D.Disk.view.told (disk_of c.handle.new.self)) =
+      subst (λ (state : State). LeavesByArm (table_size c.args.table.now) (area_of (store_of c.arm.new.self)) state.kept stop.change c.args.arm (g.D.Disk.view.told (disk_of c.handle.new.self))) (sym alike.state) left in
       let state : (replica_of c.handle.new.self).state ≡ (replica_of c.args.node.now).state = alike.state ∙ ap (λ (replica : ReplicaState). replica.state) c.arm.ensures.replica in
       let store = ap area_of c.arm.ensures.store in
       let sure = cant_fail c.handle.result (g.D.Disk.view.told (disk_of c.handle.new.self)) stopped

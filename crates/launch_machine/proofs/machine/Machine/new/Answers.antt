@@ -1,26 +1,27 @@
-use Rattle.std.proofs.Common.{List, length, ap, subst, ◌∙◌}
+use Rattle.std.proofs.Common.{List, length, ap, subst, ◌∙◌, arith}
 use Rattle.std.proofs.lemmas.List.FromFn.{length-map-range_with_len}
-use Rattle.paxos_base.specs.Rows.{RowsStand}
 use Rattle.paxos_base.specs.declared.rows.JobRow.{JobRow}
-use Rattle.paxos_base.specs.Rows.{fresh_row}
+use Rattle.paxos_base.specs.Rows.{fresh_row, fresh_rows, row_count}
+use Rattle.paxos_base.specs.declared.rows.TableSize.{TableSize}
+use Rattle.launch_machine.specs.Clerk.{table_size}
 use Rattle.launch_machine.specs.Machine.{AreCalls, AreNextStarts}
 use Rattle.launch_machine.proofs.MachineLemmas.{fresh_open, fresh_stand}
 use Rattle.launch_machine.proofs.machine.Machine.new.Goals as goal
 
 pub starts_of-requires : goal.starts_of-requires
 starts_of-requires c =
-    ap length c.deref.ensures.value ∙ ap length c.in_ok-rows.ensures ∙ length-map-range_with_len fresh_row 0 c.jobs.result ∙ c.jobs.ensures.count
+    ap length c.deref.ensures.value ∙ ap length c.in_ok-rows.ensures ∙ length-map-range_with_len fresh_row 0 (row_count c.table_size.result) ∙ ap row_count c.table_size.ensures.size
 
 pub calls_of-requires : goal.calls_of-requires
 calls_of-requires c =
-    ap length c.deref-2.ensures.value ∙ ap length c.in_ok-rows.ensures ∙ length-map-range_with_len fresh_row 0 c.jobs.result ∙ c.jobs.ensures.count
+    ap length c.deref-2.ensures.value ∙ ap length c.in_ok-rows.ensures ∙ length-map-range_with_len fresh_row 0 (row_count c.table_size.result) ∙ ap row_count c.table_size.ensures.size
 
 pub invariant_of-result : goal.invariant_of-result
-invariant_of-result c = fresh_open c.in_ok-rows.rows.items c.jobs.result c.in_ok-rows.ensures
+invariant_of-result c = fresh_open c.in_ok-rows.rows.items (row_count c.table_size.result) c.in_ok-rows.ensures
 
 pub returns-clause-stands : goal.returns-clause-stands
 returns-clause-stands c = record {
-  rows = subst (RowsStand c.in_ok-rows.rows.items) c.jobs.ensures.count (fresh_stand c.in_ok-rows.rows.items c.jobs.result c.in_ok-rows.ensures);
+  rows = fresh_stand c.in_ok-rows.rows.items (table_size c.args.table.now) (c.in_ok-rows.ensures ∙ ap (λ (size : TableSize). fresh_rows (row_count size)) c.table_size.ensures.size);
   starts = subst (λ (r : List JobRow). AreNextStarts c.args.table.now r c.in_ok-starts.starts) c.deref.ensures.value c.in_ok-starts.ensures;
   calls = subst (λ (r : List JobRow). AreCalls c.args.table.now r c.in_ok-calls.calls) c.deref-2.ensures.value c.in_ok-calls.ensures;
 }

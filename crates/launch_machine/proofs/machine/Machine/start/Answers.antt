@@ -1,4 +1,4 @@
-use Rattle.std.proofs.Common.{◌≡◌, List, length, FitsSigned, to_z, of_z, w64, sym, ap, subst, ◌∙◌}
+use Rattle.std.proofs.Common.{◌+◌, ◌≡◌, List, length, FitsSigned, to_z, of_z, w64, sym, ap, subst, ◌∙◌}
 use Rattle.std.proofs.lemmas.Int.{to_z-of_z}
 use Rattle.std.specs.Prelude.{slice_set}
 use Rattle.paxos_base.specs.declared.entry.Entry.TheVariants.{Start}
@@ -18,7 +18,7 @@ put-requires-clause-number c =
     let takes : TakesStart c.args.table.now old.rows c.args.job c.args.at c.args.now =
     simp to_z-of_z at (subst (λ (r : List JobRow). TakesStart c.args.table.now r c.args.job (to_z w64 (of_z w64 c.args.at)) (to_z w64 (of_z w64 c.args.now))) c.deref.ensures.value told) in
     let opened : c.opened-row.result ≡ opened_row c.args.at c.args.now c.index.result.now = simp to_z-of_z at c.opened-row.ensures in
-    row_opened old.rows (length c.args.table.now.jobs) c.args.job c.args.at c.args.now takes.row c.index.result.now c.index.result.now c.opened-row.result stands.rows takes.is_row c.index.ensures opened
+    row_opened old.rows (length c.args.table.now.jobs + 1) c.args.job c.args.at c.args.now takes.row c.index.result.now c.index.result.now c.opened-row.result stands.rows.numbered takes.is_row c.index.ensures opened
 
 pub returns-then-takes_start-clause-applies : goal.returns-then-takes_start-clause-applies
 returns-then-takes_start-clause-applies c =

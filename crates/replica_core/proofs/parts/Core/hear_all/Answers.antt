@@ -1,5 +1,6 @@
 use Rattle.std.proofs.Common.{◌<◌, ◌^◌, arith, length, refl}
 use Rattle.std.proofs.lemmas.Bool.{and_parts, ltb-true}
+use Rattle.launch_machine.specs.Clerk.{table_size}
 use Rattle.step_spec.specs.Heard.{messages_of}
 use Rattle.step_spec.specs.Letters.{IsHeardAs}
 use Rattle.replica_core.proofs.HearLemmas.{first-rows, hearing-all, hearing-next, hearing-none, once-now}
@@ -15,14 +16,14 @@ loop-packet-init c =
     let from = c.args.letter.now.from in
     let packets = c.args.letter.now.packets in
     let bytes = c.requires.letter.0 in
-    let heard : IsHeardAs c.args.self.now.members (length c.args.table.now.jobs) bytes from (messages_of packets) =
+    let heard : IsHeardAs c.args.self.now.members (table_size c.args.table.now) bytes from (messages_of packets) =
     record { packets = packets; spells = c.requires.letter.1; heard = rw c.requires.bounds refl } in
     rw (c.from-from.ensures, c.packets-packets.ensures)
     (hearing-none c.args.table.now c.args.self.now from packets c.args.draft.now c.requires.idle.stands
     (begun-ready c.args.self.now c.args.draft.now c.requires.whole c.requires.idle.term c.requires.idle.change c.requires.idle.learnt c.args.table.now).steady
     c.requires.idle.change c.requires.idle.learnt
     (read-once c.args.self.now.members from packets bytes c.requires.letter.1)
-    (all-rows-heard c.args.self.now.members (length c.args.table.now.jobs) bytes from (messages_of packets) heard)
+    (all-rows-heard c.args.self.now.members (table_size c.args.table.now) bytes from (messages_of packets) heard)
     (and_parts _ _ c.requires.bounds).1)
 
 pub hear-requires : goal.hear-requires
@@ -35,7 +36,7 @@ hear-requires c =
       prefix = rw (own-prefix c.args.self.now c.requires.whole) c.requires.small.prefix;
       member = rw c.from-from.ensures (read-from c.args.self.now.members c.args.letter.now.from c.args.letter.now.packets c.requires.letter.0 c.requires.letter.1);
       small = (and_parts _ _ hearing.small).0;
-      rows = (first-rows (length c.args.table.now.jobs) c.in-Some.packet c.next.new.self hearing.rows).0;
+      rows = (first-rows (table_size c.args.table.now) c.in-Some.packet c.next.new.self hearing.rows).0;
       once = once-now c.in-Some.packet c.next.new.self (changes_of_draft c.loop-packet.draft.change) hearing.once;
       steady = hearing.steady;
       short = omega (arith, few, past);

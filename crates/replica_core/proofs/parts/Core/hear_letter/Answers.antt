@@ -21,7 +21,7 @@ returns-else-is_small_letter-clause-makes c =
     let letter = c.in_ok-letter.letter in
     hears-letter c.args.table.now _ letter.from letter.packets c.args.bytes.now c.args.self.now c.args.draft.now c.in_ok-letter.ensures.found refl
     (hears-nothing _ letter.from letter.packets c.args.self.now c.args.draft.now
-    (rw (← c.jobs.ensures.count) (sym c.is_small_letter.ensures ∙ c.if-is_small_letter.false)) c.requires.idle.stands)
+    (rw (← c.table_size.ensures.size) (sym c.is_small_letter.ensures ∙ c.if-is_small_letter.false)) c.requires.idle.stands)
 
 pub returns-else-is_small_letter-clause-fault : goal.returns-else-is_small_letter-clause-fault
 returns-else-is_small_letter-clause-fault c = no-fault c.in_ok-letter.letter _ c.in_ok-letter.ensures.fault

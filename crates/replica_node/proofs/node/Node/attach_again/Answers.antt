@@ -1,5 +1,7 @@
-use Rattle.std.proofs.Common.{◌≡◌, ℕ, Err, Some, length, refl, sym, ap, ◌∙◌, subst}
+use Rattle.std.proofs.Common.{◌≡◌, Err, Some, refl, sym, ap, ◌∙◌, subst}
 use Rattle.std.proofs.lemmas.Result.{err_from_is_err_and}
+use Rattle.launch_machine.specs.Clerk.{table_size}
+use Rattle.paxos_base.specs.declared.rows.TableSize.{TableSize}
 use Rattle.disk_model.specs.Told.{Told, image_left}
 use Rattle.gate_file.specs.File.{bodies_of}
 use Rattle.paxos_base.specs.Durable.{after_delta}
@@ -22,14 +24,14 @@ pub start-requires-clause-rows : goal.start-requires-clause-rows
 start-requires-clause-rows g c =
     let store = c.in_ok-store.store in
     let keeps = c.in_ok-store.ensures.keeps in
-    let fit = fit_to_start store.jobs (bodies_of store.gates) c.in_ok-store.kept keeps.0 keeps.1 in
-    subst (λ (jobs : ℕ). RowsStand c.in_ok-store.kept.rows jobs) (c.in_ok-store.ensures.jobs ∙ c.jobs.ensures.count) fit.rows
+    let fit = fit_to_start store.size (bodies_of store.gates) c.in_ok-store.kept keeps.0 keeps.1 in
+    subst (λ (size : TableSize). RowsStand c.in_ok-store.kept.rows size) (c.in_ok-store.ensures.size ∙ c.table_size.ensures.size) fit.rows
 
 pub start-requires-clause-tried : goal.start-requires-clause-tried
 start-requires-clause-tried g c =
     let store = c.in_ok-store.store in
     let keeps = c.in_ok-store.ensures.keeps in
-    let fit = fit_to_start store.jobs (bodies_of store.gates) c.in_ok-store.kept keeps.0 keeps.1 in
+    let fit = fit_to_start store.size (bodies_of store.gates) c.in_ok-store.kept keeps.0 keeps.1 in
     fit.tried
 
 pub returns-clause-at_rest : goal.returns-clause-at_rest
@@ -39,7 +41,7 @@ returns-clause-at_rest g c =
     let keeps = c.in_ok-store.ensures.keeps in
     let replica = c.in_ok-self.field-0 in
     let self : Identity = record { me = c.args.me; members = c.args.members } in
-    let fit = fit_to_start store.jobs (bodies_of store.gates) kept keeps.0 keeps.1 in
+    let fit = fit_to_start store.size (bodies_of store.gates) kept keeps.0 keeps.1 in
     let first : IsCoherent self replica.state = subst (λ (state : State). IsCoherent self state) (sym c.in_ok-self.ensures.state) (start_sound self kept fit.votes) in
     record {
       runs = refl;
@@ -48,7 +50,7 @@ returns-clause-at_rest g c =
       of_table = c.in_ok-self.ensures.of_table;
       coherent = subst (λ (identity : Identity). IsCoherent identity replica.state) (sym c.in_ok-self.ensures.identity) first;
       rests = c.in_ok-store.ensures.rests;
-      jobs = c.in_ok-store.ensures.jobs ∙ c.jobs.ensures.count;
+      size = c.in_ok-store.ensures.size ∙ c.table_size.ensures.size;
       keeps = subst (λ (found : Durable). StoreKeeps store found) (sym (ap (λ (state : State). state.kept) c.in_ok-self.ensures.state)) keeps;
     }
 
@@ -68,10 +70,10 @@ returns-clause-kept g c honest =
     let found = c.in_ok-store.kept in
     let planned =
     planned_as c.args.table.now c.args.self.now.replica c.in-Some.planned stop.planned stop.change c.args.self.now.stopped (sym c.take.ensures.value ∙ c.in-Some.is) stop.is_cut_short stop.has_planned in
-    let recoverable : IsRecoverable c.jobs.result before after (g.D.Disk.view.may_leave c.args.self.now.disk) = rw c.jobs.ensures.count (stop.recoverable honest) in
+    let recoverable : IsRecoverable c.table_size.result before after (g.D.Disk.view.may_leave c.args.self.now.disk) = rw c.table_size.ensures.size (stop.recoverable honest) in
     let kept = c.take_kept-change.ensures.kept stop.change planned in
-    let facts : Reopens (length c.args.table.now.jobs) before found c.take_kept-change.new.replica.state.kept stop.change c.take_kept-change.result =
-    reopens (length c.args.table.now.jobs) before found c.take_kept-change.new.replica.state.kept stop.change c.take_kept-change.result c.in_ok-store.store c.in_ok-store.ensures.keeps stop.has_planned.follows
+    let facts : Reopens (table_size c.args.table.now) before found c.take_kept-change.new.replica.state.kept stop.change c.take_kept-change.result =
+    reopens (table_size c.args.table.now) before found c.take_kept-change.new.replica.state.kept stop.change c.take_kept-change.result c.in_ok-store.store c.in_ok-store.ensures.keeps stop.has_planned.follows
     (c.in_ok-store.ensures.either before after honest recoverable) (c.take_kept-change.ensures.answer stop.change planned) kept in
     ap (λ (state : State). state.kept) c.in_ok-self.ensures.state ∙ sym facts.same ∙ kept
 
@@ -79,20 +81,20 @@ pub returns-clause-answer_by_arm : goal.returns-clause-answer_by_arm
 returns-clause-answer_by_arm g c stop area arm honest left =
     let before = c.args.self.now.replica.state.kept in
     let after = after_delta stop.change before in
-    let jobs = length c.args.table.now.jobs in
+    let size = table_size c.args.table.now in
     let found = c.in_ok-store.kept in
     let now = c.take_kept-change.new.replica.state.kept in
     let planned =
     planned_as c.args.table.now c.args.self.now.replica c.in-Some.planned stop.planned stop.change c.args.self.now.stopped (sym c.take.ensures.value ∙ c.in-Some.is) stop.is_cut_short stop.has_planned in
-    let recoverable : IsRecoverable c.jobs.result before after (g.D.Disk.view.may_leave c.args.self.now.disk) = rw c.jobs.ensures.count (stop.recoverable honest) in
+    let recoverable : IsRecoverable c.table_size.result before after (g.D.Disk.view.may_leave c.args.self.now.disk) = rw c.table_size.ensures.size (stop.recoverable honest) in
     let decided = c.take_kept-change.ensures.answer stop.change planned in
     let kept = c.take_kept-change.ensures.kept stop.change planned in
-    let facts : Reopens jobs before found now stop.change c.take_kept-change.result =
-    reopens jobs before found now stop.change c.take_kept-change.result c.in_ok-store.store c.in_ok-store.ensures.keeps stop.has_planned.follows (c.in_ok-store.ensures.either before after honest recoverable) decided
+    let facts : Reopens size before found now stop.change c.take_kept-change.result =
+    reopens size before found now stop.change c.take_kept-change.result c.in_ok-store.store c.in_ok-store.ensures.keeps stop.has_planned.follows (c.in_ok-store.ensures.either before after honest recoverable) decided
     kept in
-    let image : (told : Told) → g.D.Disk.view.told c.args.self.now.disk ≡ Some told → FilesStand jobs now (image_left told) =
-    λ told is. subst (λ (k : Durable). FilesStand jobs k (image_left told)) (sym facts.same) (subst (λ (n : ℕ). FilesStand n found (image_left told)) c.jobs.ensures.count (c.in_ok-store.ensures.image told is)) in
-    tells_answer jobs area before found now stop.change arm c.take_kept-change.result (g.D.Disk.view.told c.args.self.now.disk) facts kept image (change_or_none stop.change found c.take_kept-change.result decided) left
+    let image : (told : Told) → g.D.Disk.view.told c.args.self.now.disk ≡ Some told → FilesStand size now (image_left told) =
+    λ told is. subst (λ (k : Durable). FilesStand size k (image_left told)) (sym facts.same) (subst (λ (n : TableSize). FilesStand n found (image_left told)) c.table_size.ensures.size (c.in_ok-store.ensures.image told is)) in
+    tells_answer size area before found now stop.change arm c.take_kept-change.result (g.D.Disk.view.told c.args.self.now.disk) facts kept image (change_or_none stop.change found c.take_kept-change.result decided) left
 
 pub returns-clause-lost_by_arm : goal.returns-clause-lost_by_arm
 returns-clause-lost_by_arm g c stop area arm honest left anew loses =
@@ -102,7 +104,7 @@ pub returns-clause-area_by_arm : goal.returns-clause-area_by_arm
 returns-clause-area_by_arm g c stop area arm honest left =
     let planned =
     planned_as c.args.table.now c.args.self.now.replica c.in-Some.planned stop.planned stop.change c.args.self.now.stopped (sym c.take.ensures.value ∙ c.in-Some.is) stop.is_cut_short stop.has_planned in
-    tells_area (length c.args.table.now.jobs) area c.args.self.now.replica.state.kept stop.change arm c.take_kept-change.result (g.D.Disk.view.told c.args.self.now.disk) (area_of c.in_ok-store.store) stop.has_planned.follows
+    tells_area (table_size c.args.table.now) area c.args.self.now.replica.state.kept stop.change arm c.take_kept-change.result (g.D.Disk.view.told c.args.self.now.disk) (area_of c.in_ok-store.store) stop.has_planned.follows
     left (returns-clause-answer_by_arm g c stop area arm honest left)
     (change_or_none stop.change c.in_ok-store.kept c.take_kept-change.result (c.take_kept-change.ensures.answer stop.change planned)) c.in_ok-store.ensures.area
 
@@ -113,7 +115,7 @@ returns-in_err-store-clause-memory_alone g c fault honest sure is =
     let stop = c.requires.stopped in
     let before = c.args.self.now.replica.state.kept in
     let after = after_delta stop.change before in
-    let recoverable : IsRecoverable c.jobs.result before after (g.D.Disk.view.may_leave c.args.self.now.disk) = rw c.jobs.ensures.count (stop.recoverable honest) in
+    let recoverable : IsRecoverable c.table_size.result before after (g.D.Disk.view.may_leave c.args.self.now.disk) = rw c.table_size.ensures.size (stop.recoverable honest) in
     let other = c.in_err-store.field-0.0 in
     let gives = err_from_is_err_and c.from_residual.result c.from_residual.ensures.1 in
     let handed : c.from_residual.result ≡ Err other = gives.1 ∙ ap Err gives.2 in

@@ -1,5 +1,7 @@
-use Rattle.std.proofs.Common.{◌≡◌, ℕ, Some, Result, Ok, Err, length, refl, sym, ap, ◌∙◌, subst}
+use Rattle.std.proofs.Common.{◌≡◌, Some, Result, Ok, Err, refl, sym, ap, ◌∙◌, subst}
 use Rattle.std.specs.Option.{option_copied}
+use Rattle.launch_machine.specs.Clerk.{table_size}
+use Rattle.paxos_base.specs.declared.rows.TableSize.{TableSize}
 use Rattle.step_spec.specs.Step.{step}
 use Rattle.store_format.specs.Order.{ChangeMayFollow}
 use Rattle.replica_core.specs.Commit.{kept_after}
@@ -36,7 +38,7 @@ keep-requires-clause-follows g c change is =
     let rest = c.requires.at_rest in
     let plans = c.in_ok-planned.ensures.planned in
     let told = c.delta.ensures old (step old.identity plans.event old.state) plans.plans in
-    subst (λ jobs. ChangeMayFollow jobs c.plan.new.self.state.kept change) (sym rest.jobs)
+    subst (λ size. ChangeMayFollow size c.plan.new.self.state.kept change) (sym rest.size)
     (change_follows table c.args.input old c.plan.new.self c.in_ok-planned.planned (option_copied c.delta.result) change (few_members old.identity.me old.identity.members rest.member rest.few) rest.coherent rest.of_table
     c.plan.ensures.alike plans c.in_ok-planned.ensures.can told is)
 
@@ -54,7 +56,7 @@ returns-in-Ok-clause-at_rest g c =
     let alike : IsSameReplica kept.replica old.replica = subst (λ (now : ReplicaState). IsSameReplica now old.replica) (sym c.keep.ensures.replica) c.plan.ensures.alike in
     let takes = c.complete.ensures acts (plans_alike old.replica kept.replica acts planned alike plans.plans) in
     at_rest_after g.D.Disk.view table c.args.input old (record { replica = c.complete.new.self; store = kept.store; disk = kept.disk; running = kept.running; stopped = kept.stopped }) kept.replica planned (option_copied c.delta.result)
-    c.complete.result c.requires.at_rest alike plans takes told c.in-Ok.ensures.runs c.keep.ensures.jobs c.in-Ok.ensures.rests (rw c.keep.ensures.replica c.in-Ok.ensures.keeps)
+    c.complete.result c.requires.at_rest alike plans takes told c.in-Ok.ensures.runs c.keep.ensures.size c.in-Ok.ensures.rests (rw c.keep.ensures.replica c.in-Ok.ensures.keeps)
 
 pub returns-in-Ok-clause-safe : goal.returns-in-Ok-clause-safe
 returns-in-Ok-clause-safe g c honest image left =
@@ -67,12 +69,12 @@ returns-in-Ok-clause-images g c honest =
     let old = c.args.self.now in
     let now = c.plan.new.self in
     let table = c.args.table.now in
-    let jobs = old.store.jobs in
+    let size = old.store.size in
     let delta = option_copied c.delta.result in
     let plans = c.in_ok-planned.ensures.planned in
     let told = c.delta.ensures old.replica (step old.replica.identity plans.event old.replica.state) plans.plans in
-    leaves_weaker g.D.Disk.view old.disk c.keep.new.self.disk (FilesStandForEither jobs now.state.kept (kept_after delta now.state.kept)) (FilesStandAround table c.args.input old.replica)
-    (either_around table c.args.input old.replica now jobs delta plans.event plans.event_is c.plan.ensures.alike c.requires.at_rest.jobs told) (c.keep.ensures.images honest)
+    leaves_weaker g.D.Disk.view old.disk c.keep.new.self.disk (FilesStandForEither size now.state.kept (kept_after delta now.state.kept)) (FilesStandAround table c.args.input old.replica)
+    (either_around table c.args.input old.replica now size delta plans.event plans.event_is c.plan.ensures.alike c.requires.at_rest.size told) (c.keep.ensures.images honest)
 
 pub returns-in-Ok-clause-told : goal.returns-in-Ok-clause-told
 returns-in-Ok-clause-told g c =
@@ -116,8 +118,8 @@ returns-in-Err-Stopped-clause-kept_by_arm g c change arm of is clean armed =
     let failed : c.keep.result ≡ Err Node.Stopped = c.in-Err-Stopped.is ∙ ap Err c.in-Err-Stopped.field-0-is in
     let stops : IsErrOf c.keep.result Node.Stopped = subst (λ (r : Result Unit NodeFault). IsErrOf r Node.Stopped) (sym failed) refl in
     let told = g.D.Disk.view.told c.keep.new.self.disk in
-    subst (λ (jobs : ℕ). LeavesByArm jobs (area_of old.store) old.replica.state.kept change arm told) rest.jobs
-    (subst (λ (state : State). LeavesByArm old.store.jobs (area_of old.store) state.kept change arm told) c.plan.ensures.alike.state
+    subst (λ (size : TableSize). LeavesByArm size (area_of old.store) old.replica.state.kept change arm told) rest.size
+    (subst (λ (state : State). LeavesByArm old.store.size (area_of old.store) state.kept change arm told) c.plan.ensures.alike.state
     (c.keep.ensures.kept_by_arm change arm (sym one) stops clean armed))
 
 pub returns-in-Err-Stopped-clause-stopped : goal.returns-in-Err-Stopped-clause-stopped
@@ -136,35 +138,35 @@ returns-in-Err-Stopped-clause-stopped g c some is =
     let stops : IsErrOf c.keep.result Node.Stopped = subst (λ (r : Result Unit NodeFault). IsErrOf r Node.Stopped) (sym failed) refl in
     let own = rest.keeps in
     let mid = record old { replica = now } in
-    let stand : StandFor old.store.jobs (records_of old.store) now.state.kept own.0 = rw c.plan.ensures.alike.state own.1 in
+    let stand : StandFor old.store.size (records_of old.store) now.state.kept own.0 = rw c.plan.ensures.alike.state own.1 in
     stopped_within g.D.Disk.view table c.args.input old.replica node planned delta
     (c.keep.ensures.ended (subst (λ (r : Result Unit NodeFault). EndsRun r) (sym failed) tt)) refl alike rest.of_table c.requires.small
     (subst (λ (r : ReplicaState). CanTake table r planned) (sym c.keep.ensures.replica) c.in_ok-planned.ensures.can) plans changes (c.keep.ensures.changed stops)
-    (λ change is_change. subst (λ (r : ReplicaState). ChangeMayFollow (length table.jobs) r.state.kept change) (sym c.keep.ensures.replica)
+    (λ change is_change. subst (λ (r : ReplicaState). ChangeMayFollow (table_size table) r.state.kept change) (sym c.keep.ensures.replica)
     (change_follows table c.args.input old.replica now planned delta change (few_members old.replica.identity.me old.replica.identity.members rest.member rest.few) rest.coherent rest.of_table c.plan.ensures.alike plans c.in_ok-planned.ensures.can changes is_change))
     (λ change is_change. planned_alters old.replica node.replica plans.event delta change (few_members old.replica.identity.me old.replica.identity.members rest.member rest.few) alike changes is_change)
     (tells_stopped (disk_calls_for mid own.0 delta) c.keep.result (g.D.Disk.view.told old.disk) (g.D.Disk.view.told node.disk) some stops (c.keep.ensures.told own.0 stand))
-    (λ honest. subst (λ (r : ReplicaState). IsRecoverable (length table.jobs) r.state.kept (kept_after delta r.state.kept) (g.D.Disk.view.may_leave node.disk)) (sym c.keep.ensures.replica)
-    (subst (λ (jobs : ℕ). IsRecoverable jobs now.state.kept (kept_after delta now.state.kept) (g.D.Disk.view.may_leave node.disk)) rest.jobs (c.keep.ensures.recoverable (c.keep.ensures.answer.honest_still.0 honest))))
+    (λ honest. subst (λ (r : ReplicaState). IsRecoverable (table_size table) r.state.kept (kept_after delta r.state.kept) (g.D.Disk.view.may_leave node.disk)) (sym c.keep.ensures.replica)
+    (subst (λ (size : TableSize). IsRecoverable size now.state.kept (kept_after delta now.state.kept) (g.D.Disk.view.may_leave node.disk)) rest.size (c.keep.ensures.recoverable (c.keep.ensures.answer.honest_still.0 honest))))
 
 pub returns-in-Err-Stopped-clause-images : goal.returns-in-Err-Stopped-clause-images
 returns-in-Err-Stopped-clause-images g c honest =
     let old = c.args.self.now in
     let now = c.plan.new.self in
     let table = c.args.table.now in
-    let jobs = old.store.jobs in
+    let size = old.store.size in
     let delta = option_copied c.delta.result in
     let plans = c.in_ok-planned.ensures.planned in
     let told = c.delta.ensures old.replica (step old.replica.identity plans.event old.replica.state) plans.plans in
-    leaves_weaker g.D.Disk.view old.disk c.keep.new.self.disk (FilesStandForEither jobs now.state.kept (kept_after delta now.state.kept)) (FilesStandAround table c.args.input old.replica)
-    (either_around table c.args.input old.replica now jobs delta plans.event plans.event_is c.plan.ensures.alike c.requires.at_rest.jobs told) (c.keep.ensures.images honest)
+    leaves_weaker g.D.Disk.view old.disk c.keep.new.self.disk (FilesStandForEither size now.state.kept (kept_after delta now.state.kept)) (FilesStandAround table c.args.input old.replica)
+    (either_around table c.args.input old.replica now size delta plans.event plans.event_is c.plan.ensures.alike c.requires.at_rest.size told) (c.keep.ensures.images honest)
 
 pub returns-in-Err-Stopped-clause-recoverable : goal.returns-in-Err-Stopped-clause-recoverable
 returns-in-Err-Stopped-clause-recoverable g c honest ends =
     let old = c.args.self.now in
     let plans = c.in_ok-planned.ensures.planned in
     let told = c.delta.ensures old.replica (step old.replica.identity plans.event old.replica.state) plans.plans in
-    recoverable_around c.args.table.now c.args.input old.replica c.plan.new.self old.store.jobs (option_copied c.delta.result) plans.event (g.D.Disk.view.may_leave c.keep.new.self.disk) plans.event_is c.plan.ensures.alike c.requires.at_rest.jobs
+    recoverable_around c.args.table.now c.args.input old.replica c.plan.new.self old.store.size (option_copied c.delta.result) plans.event (g.D.Disk.view.may_leave c.keep.new.self.disk) plans.event_is c.plan.ensures.alike c.requires.at_rest.size
     told (c.keep.ensures.recoverable honest)
 
 pub returns-in-Err-Stopped-clause-told : goal.returns-in-Err-Stopped-clause-told
@@ -199,19 +201,19 @@ returns-in-Err-clause-images g c honest =
     let old = c.args.self.now in
     let now = c.plan.new.self in
     let table = c.args.table.now in
-    let jobs = old.store.jobs in
+    let size = old.store.size in
     let delta = option_copied c.delta.result in
     let plans = c.in_ok-planned.ensures.planned in
     let told = c.delta.ensures old.replica (step old.replica.identity plans.event old.replica.state) plans.plans in
-    leaves_weaker g.D.Disk.view old.disk c.keep.new.self.disk (FilesStandForEither jobs now.state.kept (kept_after delta now.state.kept)) (FilesStandAround table c.args.input old.replica)
-    (either_around table c.args.input old.replica now jobs delta plans.event plans.event_is c.plan.ensures.alike c.requires.at_rest.jobs told) (c.keep.ensures.images honest)
+    leaves_weaker g.D.Disk.view old.disk c.keep.new.self.disk (FilesStandForEither size now.state.kept (kept_after delta now.state.kept)) (FilesStandAround table c.args.input old.replica)
+    (either_around table c.args.input old.replica now size delta plans.event plans.event_is c.plan.ensures.alike c.requires.at_rest.size told) (c.keep.ensures.images honest)
 
 pub returns-in-Err-clause-recoverable : goal.returns-in-Err-clause-recoverable
 returns-in-Err-clause-recoverable g c honest ends =
     let old = c.args.self.now in
     let plans = c.in_ok-planned.ensures.planned in
     let told = c.delta.ensures old.replica (step old.replica.identity plans.event old.replica.state) plans.plans in
-    recoverable_around c.args.table.now c.args.input old.replica c.plan.new.self old.store.jobs (option_copied c.delta.result) plans.event (g.D.Disk.view.may_leave c.keep.new.self.disk) plans.event_is c.plan.ensures.alike c.requires.at_rest.jobs
+    recoverable_around c.args.table.now c.args.input old.replica c.plan.new.self old.store.size (option_copied c.delta.result) plans.event (g.D.Disk.view.may_leave c.keep.new.self.disk) plans.event_is c.plan.ensures.alike c.requires.at_rest.size
     told (c.keep.ensures.recoverable honest)
 
 pub returns-in-Err-clause-refused : goal.returns-in-Err-clause-refused
@@ -220,7 +222,7 @@ returns-in-Err-clause-refused g c refused =
     let new = c.keep.new.self in
     let alike : IsSameReplica new.replica old.replica = subst (λ (now : ReplicaState). IsSameReplica now old.replica) (sym c.keep.ensures.replica) c.plan.ensures.alike in
     let memory = c.keep.ensures.memory (memory_below {U = StepOut} c.in-Err.fault c.keep.result (Err c.in-Err.fault) c.in-Err.is refl c.keep.ensures.no_letter refused) in
-    at_rest_still g.D.Disk.view c.args.table.now old new c.requires.at_rest alike memory.0 c.keep.ensures.jobs memory.1 (rw c.keep.ensures.replica memory.2)
+    at_rest_still g.D.Disk.view c.args.table.now old new c.requires.at_rest alike memory.0 c.keep.ensures.size memory.1 (rw c.keep.ensures.replica memory.2)
 
 pub returns-in-Err-clause-told : goal.returns-in-Err-clause-told
 returns-in-Err-clause-told g c =

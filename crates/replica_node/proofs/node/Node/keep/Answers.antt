@@ -8,7 +8,7 @@ use Rattle.paxos_base.specs.declared.durable.Durable.{Durable}
 use Rattle.store_format.specs.Order.{ChangeMayFollow}
 use Rattle.replica_store.specs.Faults as stored
 use Rattle.replica_store.specs.Made.{save_calls}
-use Rattle.replica_store.specs.Store.{area_of, jobs_of_store, records_of}
+use Rattle.replica_store.specs.Store.{area_of, size_of_store, records_of}
 use Rattle.replica_store.specs.declared.fault.StoreFault.TheVariants as Store
 use Rattle.replica_store.proofs.FileLemmas.{bodies_stand_for_one}
 use Rattle.replica_store.proofs.SaveLemmas.{rests_recoverable}
@@ -26,8 +26,8 @@ returns-in_default-clause-recoverable g c honest =
 pub save-requires-clause-follows : goal.save-requires-clause-follows
 save-requires-clause-follows g c kept keeps =
     let node = c.args.self.now in
-    let same : kept ≡ node.replica.state.kept = bodies_stand_for_one node.store.jobs (bodies_of node.store.gates) kept node.replica.state.kept keeps c.requires.keeps in
-    subst (λ (k : Durable). ChangeMayFollow (jobs_of_store node.store) k c.in-Some.delta.now) (sym same) (c.requires.follows c.in-Some.delta.now (ap option_copied c.in-Some.is))
+    let same : kept ≡ node.replica.state.kept = bodies_stand_for_one node.store.size (bodies_of node.store.gates) kept node.replica.state.kept keeps c.requires.keeps in
+    subst (λ (k : Durable). ChangeMayFollow (size_of_store node.store) k c.in-Some.delta.now) (sym same) (c.requires.follows c.in-Some.delta.now (ap option_copied c.in-Some.is))
 
 pub returns-in-Ok-clause-keeps : goal.returns-in-Ok-clause-keeps
 returns-in-Ok-clause-keeps g c = rw c.in-Some.is (c.in-Ok.ensures.keeps c.args.self.now.replica.state.kept c.requires.keeps)
@@ -78,8 +78,8 @@ returns-in-Err-Stopped-clause-kept_by_arm g c change arm is stopped clean armed 
     let own = c.requires.keeps in
     let here = ap option_copied c.in-Some.is in
     let same : c.in-Some.delta.now ≡ change = same_Some c.in-Some.delta.now change (sym here ∙ is) in
-    let jobs = jobs_of_store node.store in
-    subst (λ (d : Delta). LeavesByArm jobs (area_of node.store) kept d arm (g.D.Disk.view.told c.save.new.disk)) same
+    let size = size_of_store node.store in
+    subst (λ (d : Delta). LeavesByArm size (area_of node.store) kept d arm (g.D.Disk.view.told c.save.new.disk)) same
     (tells_by_arm g.D.Disk.view node.disk node.store kept own.0 c.in-Some.delta.now c.requires.rests arm (g.D.Disk.view.told node.disk) (g.D.Disk.view.told c.save.new.disk)
     (g.met.D.Disk.done_is_seen node.disk) clean armed own.1 (c.requires.follows c.in-Some.delta.now here) c.in-Err-Stopped.field-0 c.in-Err-Stopped.field-0-is
     (c.in-Err-Stopped.ensures.told kept own.0 own.1) c.save.ensures.spelled (λ slot rows base. c.in-Err-Stopped.ensures.base_spelled kept own.0 slot rows own.1 base (ap Err c.in-Err-Stopped.field-0-is)))

@@ -16,7 +16,7 @@ returns-in-Ok-clause-at_rest g c =
     let kept = replica.state.kept in
     let found = c.in-Ok.ensures in
     let self : Identity = record { me = c.args.me; members = c.args.members } in
-    let fit = fit_to_start store.jobs (bodies_of store.gates) kept found.keeps.0 found.keeps.1 in
+    let fit = fit_to_start store.size (bodies_of store.gates) kept found.keeps.0 found.keeps.1 in
     let first : IsCoherent self replica.state = subst (λ (state : State). IsCoherent self state) (sym found.started) (start_sound self kept fit.votes) in
     record {
       runs = refl;
@@ -25,7 +25,7 @@ returns-in-Ok-clause-at_rest g c =
       of_table = found.of_table;
       coherent = subst (λ (identity : Identity). IsCoherent identity replica.state) (sym found.identity) first;
       rests = found.rests;
-      jobs = found.jobs;
+      size = found.size;
       keeps = found.keeps;
     }
 

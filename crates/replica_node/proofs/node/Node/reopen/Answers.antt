@@ -1,4 +1,6 @@
-use Rattle.std.proofs.Common.{ℕ, Err, length, sym, ap, ◌∙◌, subst}
+use Rattle.std.proofs.Common.{Err, sym, ap, ◌∙◌, subst}
+use Rattle.paxos_base.specs.declared.rows.TableSize.{TableSize}
+use Rattle.launch_machine.specs.Clerk.{table_size}
 use Rattle.disk_model.specs.Told.{image_left}
 use Rattle.paxos_base.specs.Durable.{after_delta}
 use Rattle.paxos_base.specs.declared.durable.Durable.{Durable}
@@ -28,20 +30,20 @@ returns-in-Ok-clause-recoverable g c honest =
     let stop = c.requires.stopped in
     let before = c.args.self.replica.state.kept in
     let after = after_delta stop.change before in
-    let jobs = length c.args.table.now.jobs in
+    let size = table_size c.args.table.now in
     let disk = c.attach_stopped.new.disk in
-    let count = c.jobs.ensures.count in
+    let count = c.table_size.ensures.size in
     let found = c.in-Ok.kept in
     let store = c.in-Ok.store in
     let now = c.take_kept-change.new.replica.state.kept in
     let planned = planned_as c.args.table.now c.args.self.replica c.in-Some.planned stop.planned stop.change c.args.self.stopped c.in-Some.is stop.is_cut_short stop.has_planned in
-    let recoverable : IsRecoverable c.jobs.result before after (g.D.Disk.view.may_leave c.args.self.disk) = rw count (stop.recoverable honest) in
-    let facts : Reopens jobs before found now stop.change c.take_kept-change.result =
-    reopens jobs before found now stop.change c.take_kept-change.result store c.in-Ok.ensures.keeps stop.has_planned.follows (c.in-Ok.ensures.either before after honest recoverable)
+    let recoverable : IsRecoverable c.table_size.result before after (g.D.Disk.view.may_leave c.args.self.disk) = rw count (stop.recoverable honest) in
+    let facts : Reopens size before found now stop.change c.take_kept-change.result =
+    reopens size before found now stop.change c.take_kept-change.result store c.in-Ok.ensures.keeps stop.has_planned.follows (c.in-Ok.ensures.either before after honest recoverable)
     (c.take_kept-change.ensures.answer stop.change planned) (c.take_kept-change.ensures.kept stop.change planned) in
     let still = c.attach_stopped.ensures.answer.honest_still.1 honest in
-    let here : IsRecoverable jobs now now (g.D.Disk.view.may_leave disk) =
-    found_recoverable g.D.Disk.view disk store jobs found now c.in-Ok.ensures.rests c.in-Ok.ensures.keeps (c.in-Ok.ensures.jobs ∙ count) facts.same still in
+    let here : IsRecoverable size now now (g.D.Disk.view.may_leave disk) =
+    found_recoverable g.D.Disk.view disk store size found now c.in-Ok.ensures.rests c.in-Ok.ensures.keeps (c.in-Ok.ensures.size ∙ count) facts.same still in
     here
 
 pub returns-in-Ok-clause-stand : goal.returns-in-Ok-clause-stand
@@ -49,58 +51,58 @@ returns-in-Ok-clause-stand g c honest =
     let stop = c.requires.stopped in
     let before = c.args.self.replica.state.kept in
     let after = after_delta stop.change before in
-    let jobs = length c.args.table.now.jobs in
+    let size = table_size c.args.table.now in
     let disk = c.attach_stopped.new.disk in
-    let count = c.jobs.ensures.count in
+    let count = c.table_size.ensures.size in
     let found = c.in-Ok.kept in
     let store = c.in-Ok.store in
     let now = c.take_kept-change.new.replica.state.kept in
     let planned = planned_as c.args.table.now c.args.self.replica c.in-Some.planned stop.planned stop.change c.args.self.stopped c.in-Some.is stop.is_cut_short stop.has_planned in
-    let recoverable : IsRecoverable c.jobs.result before after (g.D.Disk.view.may_leave c.args.self.disk) = rw count (stop.recoverable honest) in
-    let facts : Reopens jobs before found now stop.change c.take_kept-change.result =
-    reopens jobs before found now stop.change c.take_kept-change.result store c.in-Ok.ensures.keeps stop.has_planned.follows (c.in-Ok.ensures.either before after honest recoverable)
+    let recoverable : IsRecoverable c.table_size.result before after (g.D.Disk.view.may_leave c.args.self.disk) = rw count (stop.recoverable honest) in
+    let facts : Reopens size before found now stop.change c.take_kept-change.result =
+    reopens size before found now stop.change c.take_kept-change.result store c.in-Ok.ensures.keeps stop.has_planned.follows (c.in-Ok.ensures.either before after honest recoverable)
     (c.take_kept-change.ensures.answer stop.change planned) (c.take_kept-change.ensures.kept stop.change planned) in
     let still = c.attach_stopped.ensures.answer.honest_still.1 honest in
-    let here : IsRecoverable jobs now now (g.D.Disk.view.may_leave disk) =
-    found_recoverable g.D.Disk.view disk store jobs found now c.in-Ok.ensures.rests c.in-Ok.ensures.keeps (c.in-Ok.ensures.jobs ∙ count) facts.same still in
-    found_stands jobs now (g.D.Disk.view.may_leave disk) (g.D.Disk.view.seen disk) here (g.met.D.Disk.seen_is_left disk still)
+    let here : IsRecoverable size now now (g.D.Disk.view.may_leave disk) =
+    found_recoverable g.D.Disk.view disk store size found now c.in-Ok.ensures.rests c.in-Ok.ensures.keeps (c.in-Ok.ensures.size ∙ count) facts.same still in
+    found_stands size now (g.D.Disk.view.may_leave disk) (g.D.Disk.view.seen disk) here (g.met.D.Disk.seen_is_left disk still)
 
 pub returns-in-Ok-clause-image : goal.returns-in-Ok-clause-image
 returns-in-Ok-clause-image g c told honest is =
     let stop = c.requires.stopped in
     let before = c.args.self.replica.state.kept in
     let after = after_delta stop.change before in
-    let jobs = length c.args.table.now.jobs in
+    let size = table_size c.args.table.now in
     let disk = c.attach_stopped.new.disk in
-    let count = c.jobs.ensures.count in
+    let count = c.table_size.ensures.size in
     let found = c.in-Ok.kept in
     let store = c.in-Ok.store in
     let now = c.take_kept-change.new.replica.state.kept in
     let planned = planned_as c.args.table.now c.args.self.replica c.in-Some.planned stop.planned stop.change c.args.self.stopped c.in-Some.is stop.is_cut_short stop.has_planned in
-    let recoverable : IsRecoverable c.jobs.result before after (g.D.Disk.view.may_leave c.args.self.disk) = rw count (stop.recoverable honest) in
-    let facts : Reopens jobs before found now stop.change c.take_kept-change.result =
-    reopens jobs before found now stop.change c.take_kept-change.result store c.in-Ok.ensures.keeps stop.has_planned.follows (c.in-Ok.ensures.either before after honest recoverable)
+    let recoverable : IsRecoverable c.table_size.result before after (g.D.Disk.view.may_leave c.args.self.disk) = rw count (stop.recoverable honest) in
+    let facts : Reopens size before found now stop.change c.take_kept-change.result =
+    reopens size before found now stop.change c.take_kept-change.result store c.in-Ok.ensures.keeps stop.has_planned.follows (c.in-Ok.ensures.either before after honest recoverable)
     (c.take_kept-change.ensures.answer stop.change planned) (c.take_kept-change.ensures.kept stop.change planned) in
     let still = c.attach_stopped.ensures.answer.honest_still.1 honest in
-    let here : IsRecoverable jobs now now (g.D.Disk.view.may_leave disk) =
-    found_recoverable g.D.Disk.view disk store jobs found now c.in-Ok.ensures.rests c.in-Ok.ensures.keeps (c.in-Ok.ensures.jobs ∙ count) facts.same still in
-    subst (λ (k : Durable). FilesStand jobs k (image_left told)) (sym facts.same) (subst (λ (n : ℕ). FilesStand n found (image_left told)) count (c.in-Ok.ensures.image told is))
+    let here : IsRecoverable size now now (g.D.Disk.view.may_leave disk) =
+    found_recoverable g.D.Disk.view disk store size found now c.in-Ok.ensures.rests c.in-Ok.ensures.keeps (c.in-Ok.ensures.size ∙ count) facts.same still in
+    subst (λ (k : Durable). FilesStand size k (image_left told)) (sym facts.same) (subst (λ (n : TableSize). FilesStand n found (image_left told)) count (c.in-Ok.ensures.image told is))
 
 pub returns-in-Ok-clause-answer_by_arm : goal.returns-in-Ok-clause-answer_by_arm
 returns-in-Ok-clause-answer_by_arm g c stop area arm honest left =
     let before = c.args.self.replica.state.kept in
     let after = after_delta stop.change before in
-    let jobs = length c.args.table.now.jobs in
-    let count = c.jobs.ensures.count in
+    let size = table_size c.args.table.now in
+    let count = c.table_size.ensures.size in
     let found = c.in-Ok.kept in
     let now = c.take_kept-change.new.replica.state.kept in
     let planned = planned_as c.args.table.now c.args.self.replica c.in-Some.planned stop.planned stop.change c.args.self.stopped c.in-Some.is stop.is_cut_short stop.has_planned in
-    let recoverable : IsRecoverable c.jobs.result before after (g.D.Disk.view.may_leave c.args.self.disk) = rw count (stop.recoverable honest) in
+    let recoverable : IsRecoverable c.table_size.result before after (g.D.Disk.view.may_leave c.args.self.disk) = rw count (stop.recoverable honest) in
     let decided = c.take_kept-change.ensures.answer stop.change planned in
     let kept = c.take_kept-change.ensures.kept stop.change planned in
-    let facts : Reopens jobs before found now stop.change c.take_kept-change.result =
-    reopens jobs before found now stop.change c.take_kept-change.result c.in-Ok.store c.in-Ok.ensures.keeps stop.has_planned.follows (c.in-Ok.ensures.either before after honest recoverable) decided kept in
-    tells_answer jobs area before found now stop.change arm c.take_kept-change.result (g.D.Disk.view.told c.args.self.disk) facts kept (λ told is. returns-in-Ok-clause-image g c told honest is)
+    let facts : Reopens size before found now stop.change c.take_kept-change.result =
+    reopens size before found now stop.change c.take_kept-change.result c.in-Ok.store c.in-Ok.ensures.keeps stop.has_planned.follows (c.in-Ok.ensures.either before after honest recoverable) decided kept in
+    tells_answer size area before found now stop.change arm c.take_kept-change.result (g.D.Disk.view.told c.args.self.disk) facts kept (λ told is. returns-in-Ok-clause-image g c told honest is)
     (change_or_none stop.change found c.take_kept-change.result decided) left
 
 pub returns-in-Ok-clause-lost_by_arm : goal.returns-in-Ok-clause-lost_by_arm
@@ -114,7 +116,7 @@ pub returns-in-Ok-clause-area_by_arm : goal.returns-in-Ok-clause-area_by_arm
 returns-in-Ok-clause-area_by_arm g c stop area arm honest left =
     let before = c.args.self.replica.state.kept in
     let planned = planned_as c.args.table.now c.args.self.replica c.in-Some.planned stop.planned stop.change c.args.self.stopped c.in-Some.is stop.is_cut_short stop.has_planned in
-    tells_area (length c.args.table.now.jobs) area before stop.change arm c.take_kept-change.result (g.D.Disk.view.told c.args.self.disk) (selected (g.D.Disk.view.seen c.attach_stopped.new.disk)) stop.has_planned.follows left
+    tells_area (table_size c.args.table.now) area before stop.change arm c.take_kept-change.result (g.D.Disk.view.told c.args.self.disk) (selected (g.D.Disk.view.seen c.attach_stopped.new.disk)) stop.has_planned.follows left
     (returns-in-Ok-clause-answer_by_arm g c stop area arm honest left) (change_or_none stop.change c.in-Ok.kept c.take_kept-change.result (c.take_kept-change.ensures.answer stop.change planned))
     (returns-in-Ok-clause-area g c)
 
@@ -122,27 +124,27 @@ pub returns-in-Ok-clause-lost : goal.returns-in-Ok-clause-lost
 returns-in-Ok-clause-lost g c stop honest none =
     let before = c.args.self.replica.state.kept in
     let after = after_delta stop.change before in
-    let jobs = length c.args.table.now.jobs in
+    let size = table_size c.args.table.now in
     let disk = c.attach_stopped.new.disk in
-    let count = c.jobs.ensures.count in
+    let count = c.table_size.ensures.size in
     let found = c.in-Ok.kept in
     let store = c.in-Ok.store in
     let now = c.take_kept-change.new.replica.state.kept in
     let planned = planned_as c.args.table.now c.args.self.replica c.in-Some.planned stop.planned stop.change c.args.self.stopped c.in-Some.is stop.is_cut_short stop.has_planned in
-    let recoverable : IsRecoverable c.jobs.result before after (g.D.Disk.view.may_leave c.args.self.disk) = rw count (stop.recoverable honest) in
-    let facts : Reopens jobs before found now stop.change c.take_kept-change.result =
-    reopens jobs before found now stop.change c.take_kept-change.result store c.in-Ok.ensures.keeps stop.has_planned.follows (c.in-Ok.ensures.either before after honest recoverable)
+    let recoverable : IsRecoverable c.table_size.result before after (g.D.Disk.view.may_leave c.args.self.disk) = rw count (stop.recoverable honest) in
+    let facts : Reopens size before found now stop.change c.take_kept-change.result =
+    reopens size before found now stop.change c.take_kept-change.result store c.in-Ok.ensures.keeps stop.has_planned.follows (c.in-Ok.ensures.either before after honest recoverable)
     (c.take_kept-change.ensures.answer stop.change planned) (c.take_kept-change.ensures.kept stop.change planned) in
     let still = c.attach_stopped.ensures.answer.honest_still.1 honest in
-    let here : IsRecoverable jobs now now (g.D.Disk.view.may_leave disk) =
-    found_recoverable g.D.Disk.view disk store jobs found now c.in-Ok.ensures.rests c.in-Ok.ensures.keeps (c.in-Ok.ensures.jobs ∙ count) facts.same still in
-    not_both jobs found now after (g.D.Disk.view.seen disk) facts.same (facts.lost none) (found_stands jobs now (g.D.Disk.view.may_leave disk) (g.D.Disk.view.seen disk) here (g.met.D.Disk.seen_is_left disk still))
+    let here : IsRecoverable size now now (g.D.Disk.view.may_leave disk) =
+    found_recoverable g.D.Disk.view disk store size found now c.in-Ok.ensures.rests c.in-Ok.ensures.keeps (c.in-Ok.ensures.size ∙ count) facts.same still in
+    not_both size found now after (g.D.Disk.view.seen disk) facts.same (facts.lost none) (found_stands size now (g.D.Disk.view.may_leave disk) (g.D.Disk.view.seen disk) here (g.met.D.Disk.seen_is_left disk still))
 
 pub returns-in-Ok-clause-still_recoverable : goal.returns-in-Ok-clause-still_recoverable
 returns-in-Ok-clause-still_recoverable g c stop honest =
     let before = c.args.self.replica.state.kept in
     let after = after_delta stop.change before in
-    rw (← c.jobs.ensures.count) (c.attach_stopped.ensures.recoverable before after honest (rw c.jobs.ensures.count (stop.recoverable honest)))
+    rw (← c.table_size.ensures.size) (c.attach_stopped.ensures.recoverable before after honest (rw c.table_size.ensures.size (stop.recoverable honest)))
 
 -- ---- it is not
 
@@ -150,18 +152,18 @@ pub returns-clause-still_recoverable : goal.returns-clause-still_recoverable
 returns-clause-still_recoverable g c stop honest =
     let before = c.args.self.replica.state.kept in
     let after = after_delta stop.change before in
-    rw (← c.jobs.ensures.count) (c.attach_stopped.ensures.recoverable before after honest (rw c.jobs.ensures.count (stop.recoverable honest)))
+    rw (← c.table_size.ensures.size) (c.attach_stopped.ensures.recoverable before after honest (rw c.table_size.ensures.size (stop.recoverable honest)))
 
 pub returns-clause-sound : goal.returns-clause-sound
 returns-clause-sound g c gate honest is =
     let stop = c.requires.stopped in
     let before = c.args.self.replica.state.kept in
     let after = after_delta stop.change before in
-    c.attach_stopped.ensures.sound before after gate honest (rw c.jobs.ensures.count (stop.recoverable honest)) (c.in-Err.is ∙ ap Err (same_fault c.in-Err.fault _ is))
+    c.attach_stopped.ensures.sound before after gate honest (rw c.table_size.ensures.size (stop.recoverable honest)) (c.in-Err.is ∙ ap Err (same_fault c.in-Err.fault _ is))
 
 pub returns-clause-damaged : goal.returns-clause-damaged
 returns-clause-damaged g c gate bodies is has =
-    subst (λ (n : ℕ). IsFirstRecordAtFault n bodies gate) c.jobs.ensures.count (c.attach_stopped.ensures.damaged gate bodies (c.in-Err.is ∙ ap Err (same_fault c.in-Err.fault _ is)) has)
+    subst (λ (n : TableSize). IsFirstRecordAtFault n bodies gate) c.table_size.ensures.size (c.attach_stopped.ensures.damaged gate bodies (c.in-Err.is ∙ ap Err (same_fault c.in-Err.fault _ is)) has)
 
 pub returns-clause-unended : goal.returns-clause-unended
 returns-clause-unended g c sure ends =

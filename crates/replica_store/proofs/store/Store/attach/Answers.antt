@@ -30,11 +30,11 @@ use Rattle.replica_store.proofs.store.Store.attach.Goals as goal
 pub returns-in_err-area-clause-images : goal.returns-in_err-area-clause-images
 returns-in_err-area-clause-images g c before after honest recoverable =
     let old = c.args.disk.now in
-    run_stands g.D.Disk.view c.args.jobs before after old c.select.new.disk (g.D.Disk.view.may_leave old) recoverable (c.select.ensures.images honest)
+    run_stands g.D.Disk.view c.args.size before after old c.select.new.disk (g.D.Disk.view.may_leave old) recoverable (c.select.ensures.images honest)
 
 pub returns-in_err-area-clause-recoverable : goal.returns-in_err-area-clause-recoverable
 returns-in_err-area-clause-recoverable g c before after honest recoverable =
-    fewer_recoverable c.args.jobs before after (g.D.Disk.view.may_leave c.args.disk.now) (g.D.Disk.view.may_leave c.select.new.disk) (c.select.ensures.no_new_image honest) recoverable
+    fewer_recoverable c.args.size before after (g.D.Disk.view.may_leave c.args.disk.now) (g.D.Disk.view.may_leave c.select.new.disk) (c.select.ensures.no_new_image honest) recoverable
 
 -- ---- the area
 
@@ -43,12 +43,12 @@ returns-in_err-read-clause-images g c before after honest recoverable =
     let old = c.args.disk.now in
     let chosen = c.select.new.disk in
     let looked = looks_on g.D.Disk.view old chosen c.read.new.disk (g.D.Disk.view.may_leave old) (g.D.Disk.view.may_leave chosen) (c.select.ensures.images honest) (c.select.ensures.no_new_image honest) (c.read.ensures.images (c.select.ensures.honest.1 honest)) in
-    run_stands g.D.Disk.view c.args.jobs before after old c.read.new.disk (g.D.Disk.view.may_leave old) recoverable looked
+    run_stands g.D.Disk.view c.args.size before after old c.read.new.disk (g.D.Disk.view.may_leave old) recoverable looked
 
 pub returns-in_err-read-clause-recoverable : goal.returns-in_err-read-clause-recoverable
 returns-in_err-read-clause-recoverable g c before after honest recoverable =
     let none : NoNewImage (g.D.Disk.view.may_leave c.args.disk.now) (g.D.Disk.view.may_leave c.read.new.disk) = λ image left. c.select.ensures.no_new_image honest image (c.read.ensures.no_new_image (c.select.ensures.honest.1 honest) image left) in
-    fewer_recoverable c.args.jobs before after (g.D.Disk.view.may_leave c.args.disk.now) (g.D.Disk.view.may_leave c.read.new.disk) none recoverable
+    fewer_recoverable c.args.size before after (g.D.Disk.view.may_leave c.args.disk.now) (g.D.Disk.view.may_leave c.read.new.disk) none recoverable
 
 -- ---- its records
 
@@ -57,22 +57,22 @@ returns-in_err-kept-clause-images g c before after honest recoverable =
     let old = c.args.disk.now in
     let chosen = c.select.new.disk in
     let looked = looks_on g.D.Disk.view old chosen c.read.new.disk (g.D.Disk.view.may_leave old) (g.D.Disk.view.may_leave chosen) (c.select.ensures.images honest) (c.select.ensures.no_new_image honest) (c.read.ensures.images (c.select.ensures.honest.1 honest)) in
-    run_stands g.D.Disk.view c.args.jobs before after old c.read.new.disk (g.D.Disk.view.may_leave old) recoverable looked
+    run_stands g.D.Disk.view c.args.size before after old c.read.new.disk (g.D.Disk.view.may_leave old) recoverable looked
 
 pub returns-in_err-kept-clause-recoverable : goal.returns-in_err-kept-clause-recoverable
 returns-in_err-kept-clause-recoverable g c before after honest recoverable =
     let none : NoNewImage (g.D.Disk.view.may_leave c.args.disk.now) (g.D.Disk.view.may_leave c.read.new.disk) = λ image left. c.select.ensures.no_new_image honest image (c.read.ensures.no_new_image (c.select.ensures.honest.1 honest) image left) in
-    fewer_recoverable c.args.jobs before after (g.D.Disk.view.may_leave c.args.disk.now) (g.D.Disk.view.may_leave c.read.new.disk) none recoverable
+    fewer_recoverable c.args.size before after (g.D.Disk.view.may_leave c.args.disk.now) (g.D.Disk.view.may_leave c.read.new.disk) none recoverable
 
 pub returns-in_err-kept-clause-sound : goal.returns-in_err-kept-clause-sound
 returns-in_err-kept-clause-sound g c before after gate honest recoverable damaged =
     let old = c.args.disk.now in
-    let jobs = c.args.jobs in
+    let size = c.args.size in
     let seen = g.D.Disk.view.seen old in
     let has-0 = subst (λ image. HasBodies (file_of c.in_ok-area.area image) c.in_ok-read.read.bodies.items) c.select.ensures.seen c.in_ok-read.ensures.bodies in
     let has-1 = subst (λ area. HasBodies (file_of area seen) c.in_ok-read.read.bodies.items) c.in_ok-area.ensures.selected has-0 in
     let has = subst (λ bodies. HasBodies (file_of (selected seen) seen) bodies) (sym c.bodies.ensures) has-1 in
-    let stand = read_stands jobs before after seen c.bodies.result.now has (recoverable_stands jobs before after (g.D.Disk.view.may_leave old) recoverable seen (g.met.D.Disk.seen_is_left old honest)) in
+    let stand = read_stands size before after seen c.bodies.result.now has (recoverable_stands size before after (g.D.Disk.view.may_leave old) recoverable seen (g.met.D.Disk.seen_is_left old honest)) in
     let fault = c.in_err-kept.field-0.0 in
     let is = damaged_below fault gate c.from_residual-in_err-kept.result c.from_residual-in_err-kept.ensures.1 damaged in
     ⊎_elim
@@ -88,7 +88,7 @@ returns-in_err-kept-clause-damaged g c gate bodies damaged has =
     let found = subst (λ found. HasBodies (file_of (selected seen) seen) found) (sym c.bodies.ensures) has-1 in
     let is = damaged_below c.in_err-kept.field-0.0 gate c.from_residual-in_err-kept.result c.from_residual-in_err-kept.ensures.1 damaged in
     let fault = c.in_err-kept.ensures.damaged gate (ap Err is) in
-    subst (λ list. IsFirstRecordAtFault c.args.jobs list gate) (one_list (file_of (selected seen) seen) c.bodies.result.now bodies found has) fault
+    subst (λ list. IsFirstRecordAtFault c.args.size list gate) (one_list (file_of (selected seen) seen) c.bodies.result.now bodies found has) fault
 
 -- ---- its tail gate
 
@@ -97,7 +97,7 @@ returns-in_err-gates-clause-images g c before after honest recoverable =
     let old = c.args.disk.now in
     let chosen = c.select.new.disk in
     let read = c.read.new.disk in
-    let jobs = c.args.jobs in
+    let size = c.args.size in
     let area = c.in_ok-area.area in
     let still = c.select.ensures.honest.1 honest in
     let there = c.read.ensures.answer.honest_still.1 still in
@@ -105,29 +105,29 @@ returns-in_err-gates-clause-images g c before after honest recoverable =
     let looked = looks_on g.D.Disk.view old chosen read (g.D.Disk.view.may_leave old) (g.D.Disk.view.may_leave chosen) (c.select.ensures.images honest) (c.select.ensures.no_new_image honest) (c.read.ensures.images still) in
     let is : selected (g.D.Disk.view.seen read) ≡ area = ap selected (c.read.ensures.seen ∙ c.select.ensures.seen) ∙ sym c.in_ok-area.ensures.selected in
     let durable : IsDurable Chooser (g.D.Disk.view.seen read) (g.D.Disk.view.may_leave read) = λ image left. c.in_ok-area.ensures.durable still image (c.read.ensures.no_new_image still image left) ∙ sym (ap (file_of Chooser) c.read.ensures.seen) in
-    let staged = area_staged jobs before after (g.D.Disk.view.seen read) (g.D.Disk.view.may_leave read) area is (g.met.D.Disk.seen_is_left read there) (fewer_recoverable jobs before after (g.D.Disk.view.may_leave old) (g.D.Disk.view.may_leave read) none recoverable) in
+    let staged = area_staged size before after (g.D.Disk.view.seen read) (g.D.Disk.view.may_leave read) area is (g.met.D.Disk.seen_is_left read there) (fewer_recoverable size before after (g.D.Disk.view.may_leave old) (g.D.Disk.view.may_leave read) none recoverable) in
     let Q = InFileOnly area (g.D.Disk.view.may_leave read) (IsStaged staged.bodies staged.pending) in
     let close = subst (λ f. AllHave f (IsStaged staged.bodies staged.pending) (g.D.Disk.view.may_leave read) → LeavesOnly g.D.Disk.view read c.close.new.disk (InFileOnly f (g.D.Disk.view.may_leave read) (IsStaged staged.bodies staged.pending))) c.in_ok-read.ensures.file (c.close.ensures.images staged.bodies staged.pending there) in
-    two_runs g.D.Disk.view jobs before after old read c.close.new.disk
-    (run_stands g.D.Disk.view jobs before after old read (g.D.Disk.view.may_leave old) recoverable looked)
-    (run_stands g.D.Disk.view jobs before after read c.close.new.disk Q (close_recoverable jobs before after (g.D.Disk.view.seen read) (g.D.Disk.view.may_leave read) area is durable staged) (close staged.staged))
+    two_runs g.D.Disk.view size before after old read c.close.new.disk
+    (run_stands g.D.Disk.view size before after old read (g.D.Disk.view.may_leave old) recoverable looked)
+    (run_stands g.D.Disk.view size before after read c.close.new.disk Q (close_recoverable size before after (g.D.Disk.view.seen read) (g.D.Disk.view.may_leave read) area is durable staged) (close staged.staged))
 
 pub returns-in_err-gates-clause-recoverable : goal.returns-in_err-gates-clause-recoverable
 returns-in_err-gates-clause-recoverable g c before after honest recoverable =
     let old = c.args.disk.now in
     let read = c.read.new.disk in
-    let jobs = c.args.jobs in
+    let size = c.args.size in
     let area = c.in_ok-area.area in
     let still = c.select.ensures.honest.1 honest in
     let there = c.read.ensures.answer.honest_still.1 still in
     let none : NoNewImage (g.D.Disk.view.may_leave old) (g.D.Disk.view.may_leave read) = λ image left. c.select.ensures.no_new_image honest image (c.read.ensures.no_new_image still image left) in
     let is : selected (g.D.Disk.view.seen read) ≡ area = ap selected (c.read.ensures.seen ∙ c.select.ensures.seen) ∙ sym c.in_ok-area.ensures.selected in
     let durable : IsDurable Chooser (g.D.Disk.view.seen read) (g.D.Disk.view.may_leave read) = λ image left. c.in_ok-area.ensures.durable still image (c.read.ensures.no_new_image still image left) ∙ sym (ap (file_of Chooser) c.read.ensures.seen) in
-    let staged = area_staged jobs before after (g.D.Disk.view.seen read) (g.D.Disk.view.may_leave read) area is (g.met.D.Disk.seen_is_left read there) (fewer_recoverable jobs before after (g.D.Disk.view.may_leave old) (g.D.Disk.view.may_leave read) none recoverable) in
+    let staged = area_staged size before after (g.D.Disk.view.seen read) (g.D.Disk.view.may_leave read) area is (g.met.D.Disk.seen_is_left read there) (fewer_recoverable size before after (g.D.Disk.view.may_leave old) (g.D.Disk.view.may_leave read) none recoverable) in
     let Q = InFileOnly area (g.D.Disk.view.may_leave read) (IsStaged staged.bodies staged.pending) in
     let close = subst (λ f. AllHave f (IsStaged staged.bodies staged.pending) (g.D.Disk.view.may_leave read) → LeavesOnly g.D.Disk.view read c.close.new.disk (InFileOnly f (g.D.Disk.view.may_leave read) (IsStaged staged.bodies staged.pending))) c.in_ok-read.ensures.file (c.close.ensures.images staged.bodies staged.pending there) in
-    run_recoverable g.D.Disk.view jobs before after read c.close.new.disk Q (λ start image le left. g.met.D.Disk.counts_now c.close.new.disk start image (c.close.ensures.answer.honest_still.1 there) le left)
-    (close_recoverable jobs before after (g.D.Disk.view.seen read) (g.D.Disk.view.may_leave read) area is durable staged) (close staged.staged)
+    run_recoverable g.D.Disk.view size before after read c.close.new.disk Q (λ start image le left. g.met.D.Disk.counts_now c.close.new.disk start image (c.close.ensures.answer.honest_still.1 there) le left)
+    (close_recoverable size before after (g.D.Disk.view.seen read) (g.D.Disk.view.may_leave read) area is durable staged) (close staged.staged)
 
 -- ---- attached
 
@@ -136,7 +136,7 @@ returns-clause-images g c before after honest recoverable =
     let old = c.args.disk.now in
     let chosen = c.select.new.disk in
     let read = c.read.new.disk in
-    let jobs = c.args.jobs in
+    let size = c.args.size in
     let area = c.in_ok-area.area in
     let still = c.select.ensures.honest.1 honest in
     let there = c.read.ensures.answer.honest_still.1 still in
@@ -144,39 +144,39 @@ returns-clause-images g c before after honest recoverable =
     let looked = looks_on g.D.Disk.view old chosen read (g.D.Disk.view.may_leave old) (g.D.Disk.view.may_leave chosen) (c.select.ensures.images honest) (c.select.ensures.no_new_image honest) (c.read.ensures.images still) in
     let is : selected (g.D.Disk.view.seen read) ≡ area = ap selected (c.read.ensures.seen ∙ c.select.ensures.seen) ∙ sym c.in_ok-area.ensures.selected in
     let durable : IsDurable Chooser (g.D.Disk.view.seen read) (g.D.Disk.view.may_leave read) = λ image left. c.in_ok-area.ensures.durable still image (c.read.ensures.no_new_image still image left) ∙ sym (ap (file_of Chooser) c.read.ensures.seen) in
-    let staged = area_staged jobs before after (g.D.Disk.view.seen read) (g.D.Disk.view.may_leave read) area is (g.met.D.Disk.seen_is_left read there) (fewer_recoverable jobs before after (g.D.Disk.view.may_leave old) (g.D.Disk.view.may_leave read) none recoverable) in
+    let staged = area_staged size before after (g.D.Disk.view.seen read) (g.D.Disk.view.may_leave read) area is (g.met.D.Disk.seen_is_left read there) (fewer_recoverable size before after (g.D.Disk.view.may_leave old) (g.D.Disk.view.may_leave read) none recoverable) in
     let Q = InFileOnly area (g.D.Disk.view.may_leave read) (IsStaged staged.bodies staged.pending) in
     let close = subst (λ f. AllHave f (IsStaged staged.bodies staged.pending) (g.D.Disk.view.may_leave read) → LeavesOnly g.D.Disk.view read c.close.new.disk (InFileOnly f (g.D.Disk.view.may_leave read) (IsStaged staged.bodies staged.pending))) c.in_ok-read.ensures.file (c.close.ensures.images staged.bodies staged.pending there) in
-    two_runs g.D.Disk.view jobs before after old read c.close.new.disk
-    (run_stands g.D.Disk.view jobs before after old read (g.D.Disk.view.may_leave old) recoverable looked)
-    (run_stands g.D.Disk.view jobs before after read c.close.new.disk Q (close_recoverable jobs before after (g.D.Disk.view.seen read) (g.D.Disk.view.may_leave read) area is durable staged) (close staged.staged))
+    two_runs g.D.Disk.view size before after old read c.close.new.disk
+    (run_stands g.D.Disk.view size before after old read (g.D.Disk.view.may_leave old) recoverable looked)
+    (run_stands g.D.Disk.view size before after read c.close.new.disk Q (close_recoverable size before after (g.D.Disk.view.seen read) (g.D.Disk.view.may_leave read) area is durable staged) (close staged.staged))
 
 pub returns-clause-recoverable : goal.returns-clause-recoverable
 returns-clause-recoverable g c before after honest recoverable =
     let old = c.args.disk.now in
     let read = c.read.new.disk in
-    let jobs = c.args.jobs in
+    let size = c.args.size in
     let area = c.in_ok-area.area in
     let still = c.select.ensures.honest.1 honest in
     let there = c.read.ensures.answer.honest_still.1 still in
     let none : NoNewImage (g.D.Disk.view.may_leave old) (g.D.Disk.view.may_leave read) = λ image left. c.select.ensures.no_new_image honest image (c.read.ensures.no_new_image still image left) in
     let is : selected (g.D.Disk.view.seen read) ≡ area = ap selected (c.read.ensures.seen ∙ c.select.ensures.seen) ∙ sym c.in_ok-area.ensures.selected in
     let durable : IsDurable Chooser (g.D.Disk.view.seen read) (g.D.Disk.view.may_leave read) = λ image left. c.in_ok-area.ensures.durable still image (c.read.ensures.no_new_image still image left) ∙ sym (ap (file_of Chooser) c.read.ensures.seen) in
-    let staged = area_staged jobs before after (g.D.Disk.view.seen read) (g.D.Disk.view.may_leave read) area is (g.met.D.Disk.seen_is_left read there) (fewer_recoverable jobs before after (g.D.Disk.view.may_leave old) (g.D.Disk.view.may_leave read) none recoverable) in
+    let staged = area_staged size before after (g.D.Disk.view.seen read) (g.D.Disk.view.may_leave read) area is (g.met.D.Disk.seen_is_left read there) (fewer_recoverable size before after (g.D.Disk.view.may_leave old) (g.D.Disk.view.may_leave read) none recoverable) in
     let Q = InFileOnly area (g.D.Disk.view.may_leave read) (IsStaged staged.bodies staged.pending) in
     let close = subst (λ f. AllHave f (IsStaged staged.bodies staged.pending) (g.D.Disk.view.may_leave read) → LeavesOnly g.D.Disk.view read c.close.new.disk (InFileOnly f (g.D.Disk.view.may_leave read) (IsStaged staged.bodies staged.pending))) c.in_ok-read.ensures.file (c.close.ensures.images staged.bodies staged.pending there) in
-    run_recoverable g.D.Disk.view jobs before after read c.close.new.disk Q (λ start image le left. g.met.D.Disk.counts_now c.close.new.disk start image (c.close.ensures.answer.honest_still.1 there) le left)
-    (close_recoverable jobs before after (g.D.Disk.view.seen read) (g.D.Disk.view.may_leave read) area is durable staged) (close staged.staged)
+    run_recoverable g.D.Disk.view size before after read c.close.new.disk Q (λ start image le left. g.met.D.Disk.counts_now c.close.new.disk start image (c.close.ensures.answer.honest_still.1 there) le left)
+    (close_recoverable size before after (g.D.Disk.view.seen read) (g.D.Disk.view.may_leave read) area is durable staged) (close staged.staged)
 
 pub returns-clause-either : goal.returns-clause-either
 returns-clause-either g c before after honest recoverable =
     let old = c.args.disk.now in
-    let jobs = c.args.jobs in
+    let size = c.args.size in
     let seen = g.D.Disk.view.seen old in
     let has-0 = subst (λ image. HasBodies (file_of c.in_ok-area.area image) c.in_ok-read.read.bodies.items) c.select.ensures.seen c.in_ok-read.ensures.bodies in
     let has-1 = subst (λ area. HasBodies (file_of area seen) c.in_ok-read.read.bodies.items) c.in_ok-area.ensures.selected has-0 in
     let has = subst (λ bodies. HasBodies (file_of (selected seen) seen) bodies) (sym c.bodies.ensures) has-1 in
-    let stand = read_stands jobs before after seen c.bodies.result.now has (recoverable_stands jobs before after (g.D.Disk.view.may_leave old) recoverable seen (g.met.D.Disk.seen_is_left old honest)) in
+    let stand = read_stands size before after seen c.bodies.result.now has (recoverable_stands size before after (g.D.Disk.view.may_leave old) recoverable seen (g.met.D.Disk.seen_is_left old honest)) in
     ⊎_elim
     (λ was. inl ((c.in_ok-kept.ensures.only before was.0 was.1).0))
     (λ now. inr ((c.in_ok-kept.ensures.only after now.0 now.1).0))
@@ -198,7 +198,7 @@ returns-clause-rests g c =
           let durable : IsDurable Chooser (g.D.Disk.view.seen read) (g.D.Disk.view.may_leave read) = λ image left. c.in_ok-area.ensures.durable still image (c.read.ensures.no_new_image still image left) ∙ sym (ap (file_of Chooser) c.read.ensures.seen) in
           stays_durable Chooser file differs (g.D.Disk.view.seen read) (g.D.Disk.view.seen close) (g.D.Disk.view.may_leave read) (g.D.Disk.view.may_leave close) (λ bytes. ⊤) durable c.in_ok-gates.ensures.others
           (now_in_run g.D.Disk.view read close (InFileOnly file (g.D.Disk.view.may_leave read) (λ bytes. ⊤)) (λ start image le left. g.met.D.Disk.counts_now close start image honest le left) (c.close.ensures.elsewhere there));
-      keeps = (c.in_ok-kept.kept, (c.in_ok-kept.field-0-1, subst (λ bodies. StandFor c.args.jobs bodies c.in_ok-kept.kept c.in_ok-kept.field-0-1) (c.bodies.ensures ∙ sym c.in_ok-gates.ensures.bodies) c.in_ok-kept.ensures.found));
+      keeps = (c.in_ok-kept.kept, (c.in_ok-kept.field-0-1, subst (λ bodies. StandFor c.args.size bodies c.in_ok-kept.kept c.in_ok-kept.field-0-1) (c.bodies.ensures ∙ sym c.in_ok-gates.ensures.bodies) c.in_ok-kept.ensures.found));
     }
 
 -- ---- the other files
@@ -361,10 +361,10 @@ returns-in_err-kept-clause-damaged_images g c gate is honest =
 -- ---- a replica can start with what was found
 
 pub returns-clause-rows : goal.returns-clause-rows
-returns-clause-rows g c = rows_found c.args.jobs c.bodies.result.now c.in_ok-kept.kept c.in_ok-kept.field-0-1 c.in_ok-kept.ensures.found
+returns-clause-rows g c = rows_found c.args.size c.bodies.result.now c.in_ok-kept.kept c.in_ok-kept.field-0-1 c.in_ok-kept.ensures.found
 
 pub returns-clause-tried : goal.returns-clause-tried
-returns-clause-tried g c = tried_fits c.args.jobs c.bodies.result.now c.in_ok-kept.kept c.in_ok-kept.field-0-1 c.in_ok-kept.ensures.found
+returns-clause-tried g c = tried_fits c.args.size c.bodies.result.now c.in_ok-kept.kept c.in_ok-kept.field-0-1 c.in_ok-kept.ensures.found
 
 -- ---- no new image at want of memory
 

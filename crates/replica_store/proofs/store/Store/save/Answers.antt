@@ -33,7 +33,7 @@ use Rattle.replica_store.proofs.store.Store.save.Goals as goal
 pub write_area-requires-clause-rows : goal.write_area-requires-clause-rows
 write_area-requires-clause-rows g c =
     let keeps = c.requires.rests.keeps in
-    (subst (ChangeMayFollow c.args.self.now.jobs keeps.0) c.in-Base.is (c.requires.follows keeps.0 keeps.1)).1
+    (subst (ChangeMayFollow c.args.self.now.size keeps.0) c.in-Base.is (c.requires.follows keeps.0 keeps.1)).1
 
 pub returns-in_err-gates-clause-images : goal.returns-in_err-gates-clause-images
 returns-in_err-gates-clause-images g c kept keeps honest =
@@ -41,7 +41,7 @@ returns-in_err-gates-clause-images g c kept keeps honest =
     let store = c.args.self.now in
     let after = after_delta c.args.delta.now kept in
     let recoverable = other_recoverable g.D.Disk.view old store c.requires.rests kept after (λ bytes. ⊤) keeps honest in
-    run_stands g.D.Disk.view store.jobs kept after old c.write_area.new.disk (InFileOnly (other_area (area_of store)) (g.D.Disk.view.may_leave old) (λ bytes. ⊤)) recoverable (c.write_area.ensures.images honest)
+    run_stands g.D.Disk.view store.size kept after old c.write_area.new.disk (InFileOnly (other_area (area_of store)) (g.D.Disk.view.may_leave old) (λ bytes. ⊤)) recoverable (c.write_area.ensures.images honest)
 
 pub returns-in_err-gates-clause-recoverable : goal.returns-in_err-gates-clause-recoverable
 returns-in_err-gates-clause-recoverable g c kept keeps honest =
@@ -50,7 +50,7 @@ returns-in_err-gates-clause-recoverable g c kept keeps honest =
     let store = c.args.self.now in
     let after = after_delta c.args.delta.now kept in
     let recoverable = other_recoverable g.D.Disk.view old store c.requires.rests kept after (λ bytes. ⊤) keeps honest in
-    run_recoverable g.D.Disk.view store.jobs kept after old mid (InFileOnly (other_area (area_of store)) (g.D.Disk.view.may_leave old) (λ bytes. ⊤))
+    run_recoverable g.D.Disk.view store.size kept after old mid (InFileOnly (other_area (area_of store)) (g.D.Disk.view.may_leave old) (λ bytes. ⊤))
     (λ start image le left. g.met.D.Disk.counts_now mid start image (c.write_area.ensures.answer.honest_still.1 honest) le left) recoverable (c.write_area.ensures.images honest)
 
 pub returns-in_err-gates-clause-memory : goal.returns-in_err-gates-clause-memory
@@ -85,12 +85,12 @@ returns-in_err-write_synced-clause-images g c kept keeps honest =
     let first = other_recoverable g.D.Disk.view old store c.requires.rests kept after (λ bytes. ⊤) keeps honest in
     let rests = rests_in_other g.D.Disk.view old store c.requires.rests mid (λ bytes. ⊤) c.write_area.ensures.answer.honest_still.0 c.in_ok-gates.ensures.others
     (λ is. now_in_run g.D.Disk.view old mid (InFileOnly other (g.D.Disk.view.may_leave old) (λ bytes. ⊤)) (λ start image le left. g.met.D.Disk.counts_now mid start image (c.write_area.ensures.answer.honest_still.1 is) le left) (c.write_area.ensures.images is)) in
-    let stand : BodiesStand store.jobs (bodies_of c.in_ok-gates.gates) after = subst (λ delta. BodiesStand store.jobs (bodies_of c.in_ok-gates.gates) (after_delta delta kept)) (sym c.in-Base.is) (c.in_ok-gates.ensures.stand kept keeps) in
+    let stand : BodiesStand store.size (bodies_of c.in_ok-gates.gates) after = subst (λ delta. BodiesStand store.size (bodies_of c.in_ok-gates.gates) (after_delta delta kept)) (sym c.in-Base.is) (c.in_ok-gates.ensures.stand kept keeps) in
     let T = Torn 0 1 (file_of Chooser (g.D.Disk.view.seen mid)) in
     let second = chooser_recoverable g.D.Disk.view mid store rests kept after T c.in_ok-gates.gates c.in_ok-gates.ensures.file c.in_ok-gates.ensures.rests keeps there stand in
-    two_runs g.D.Disk.view store.jobs kept after old mid new
-    (run_stands g.D.Disk.view store.jobs kept after old mid (InFileOnly other (g.D.Disk.view.may_leave old) (λ bytes. ⊤)) first (c.write_area.ensures.images honest))
-    (run_stands g.D.Disk.view store.jobs kept after mid new (InFileOnly Chooser (g.D.Disk.view.may_leave mid) T) second (c.write_synced.ensures.images there))
+    two_runs g.D.Disk.view store.size kept after old mid new
+    (run_stands g.D.Disk.view store.size kept after old mid (InFileOnly other (g.D.Disk.view.may_leave old) (λ bytes. ⊤)) first (c.write_area.ensures.images honest))
+    (run_stands g.D.Disk.view store.size kept after mid new (InFileOnly Chooser (g.D.Disk.view.may_leave mid) T) second (c.write_synced.ensures.images there))
 
 pub returns-in_err-write_synced-clause-recoverable : goal.returns-in_err-write_synced-clause-recoverable
 returns-in_err-write_synced-clause-recoverable g c kept keeps honest =
@@ -104,10 +104,10 @@ returns-in_err-write_synced-clause-recoverable g c kept keeps honest =
     let first = other_recoverable g.D.Disk.view old store c.requires.rests kept after (λ bytes. ⊤) keeps honest in
     let rests = rests_in_other g.D.Disk.view old store c.requires.rests mid (λ bytes. ⊤) c.write_area.ensures.answer.honest_still.0 c.in_ok-gates.ensures.others
     (λ is. now_in_run g.D.Disk.view old mid (InFileOnly other (g.D.Disk.view.may_leave old) (λ bytes. ⊤)) (λ start image le left. g.met.D.Disk.counts_now mid start image (c.write_area.ensures.answer.honest_still.1 is) le left) (c.write_area.ensures.images is)) in
-    let stand : BodiesStand store.jobs (bodies_of c.in_ok-gates.gates) after = subst (λ delta. BodiesStand store.jobs (bodies_of c.in_ok-gates.gates) (after_delta delta kept)) (sym c.in-Base.is) (c.in_ok-gates.ensures.stand kept keeps) in
+    let stand : BodiesStand store.size (bodies_of c.in_ok-gates.gates) after = subst (λ delta. BodiesStand store.size (bodies_of c.in_ok-gates.gates) (after_delta delta kept)) (sym c.in-Base.is) (c.in_ok-gates.ensures.stand kept keeps) in
     let T = Torn 0 1 (file_of Chooser (g.D.Disk.view.seen mid)) in
     let second = chooser_recoverable g.D.Disk.view mid store rests kept after T c.in_ok-gates.gates c.in_ok-gates.ensures.file c.in_ok-gates.ensures.rests keeps there stand in
-    run_recoverable g.D.Disk.view store.jobs kept after mid new (InFileOnly Chooser (g.D.Disk.view.may_leave mid) T)
+    run_recoverable g.D.Disk.view store.size kept after mid new (InFileOnly Chooser (g.D.Disk.view.may_leave mid) T)
     (λ start image le left. g.met.D.Disk.counts_now new start image (c.write_synced.ensures.honest.1 there) le left) second (c.write_synced.ensures.images there)
 
 pub returns-in-Base-clause-images : goal.returns-in-Base-clause-images
@@ -122,12 +122,12 @@ returns-in-Base-clause-images g c kept keeps honest =
     let first = other_recoverable g.D.Disk.view old store c.requires.rests kept after (λ bytes. ⊤) keeps honest in
     let rests = rests_in_other g.D.Disk.view old store c.requires.rests mid (λ bytes. ⊤) c.write_area.ensures.answer.honest_still.0 c.in_ok-gates.ensures.others
     (λ is. now_in_run g.D.Disk.view old mid (InFileOnly other (g.D.Disk.view.may_leave old) (λ bytes. ⊤)) (λ start image le left. g.met.D.Disk.counts_now mid start image (c.write_area.ensures.answer.honest_still.1 is) le left) (c.write_area.ensures.images is)) in
-    let stand : BodiesStand store.jobs (bodies_of c.in_ok-gates.gates) after = subst (λ delta. BodiesStand store.jobs (bodies_of c.in_ok-gates.gates) (after_delta delta kept)) (sym c.in-Base.is) (c.in_ok-gates.ensures.stand kept keeps) in
+    let stand : BodiesStand store.size (bodies_of c.in_ok-gates.gates) after = subst (λ delta. BodiesStand store.size (bodies_of c.in_ok-gates.gates) (after_delta delta kept)) (sym c.in-Base.is) (c.in_ok-gates.ensures.stand kept keeps) in
     let T = Torn 0 1 (file_of Chooser (g.D.Disk.view.seen mid)) in
     let second = chooser_recoverable g.D.Disk.view mid store rests kept after T c.in_ok-gates.gates c.in_ok-gates.ensures.file c.in_ok-gates.ensures.rests keeps there stand in
-    two_runs g.D.Disk.view store.jobs kept after old mid new
-    (run_stands g.D.Disk.view store.jobs kept after old mid (InFileOnly other (g.D.Disk.view.may_leave old) (λ bytes. ⊤)) first (c.write_area.ensures.images honest))
-    (run_stands g.D.Disk.view store.jobs kept after mid new (InFileOnly Chooser (g.D.Disk.view.may_leave mid) T) second (c.write_synced.ensures.images there))
+    two_runs g.D.Disk.view store.size kept after old mid new
+    (run_stands g.D.Disk.view store.size kept after old mid (InFileOnly other (g.D.Disk.view.may_leave old) (λ bytes. ⊤)) first (c.write_area.ensures.images honest))
+    (run_stands g.D.Disk.view store.size kept after mid new (InFileOnly Chooser (g.D.Disk.view.may_leave mid) T) second (c.write_synced.ensures.images there))
 
 pub returns-in-Base-clause-recoverable : goal.returns-in-Base-clause-recoverable
 returns-in-Base-clause-recoverable g c kept keeps honest =
@@ -141,10 +141,10 @@ returns-in-Base-clause-recoverable g c kept keeps honest =
     let first = other_recoverable g.D.Disk.view old store c.requires.rests kept after (λ bytes. ⊤) keeps honest in
     let rests = rests_in_other g.D.Disk.view old store c.requires.rests mid (λ bytes. ⊤) c.write_area.ensures.answer.honest_still.0 c.in_ok-gates.ensures.others
     (λ is. now_in_run g.D.Disk.view old mid (InFileOnly other (g.D.Disk.view.may_leave old) (λ bytes. ⊤)) (λ start image le left. g.met.D.Disk.counts_now mid start image (c.write_area.ensures.answer.honest_still.1 is) le left) (c.write_area.ensures.images is)) in
-    let stand : BodiesStand store.jobs (bodies_of c.in_ok-gates.gates) after = subst (λ delta. BodiesStand store.jobs (bodies_of c.in_ok-gates.gates) (after_delta delta kept)) (sym c.in-Base.is) (c.in_ok-gates.ensures.stand kept keeps) in
+    let stand : BodiesStand store.size (bodies_of c.in_ok-gates.gates) after = subst (λ delta. BodiesStand store.size (bodies_of c.in_ok-gates.gates) (after_delta delta kept)) (sym c.in-Base.is) (c.in_ok-gates.ensures.stand kept keeps) in
     let T = Torn 0 1 (file_of Chooser (g.D.Disk.view.seen mid)) in
     let second = chooser_recoverable g.D.Disk.view mid store rests kept after T c.in_ok-gates.gates c.in_ok-gates.ensures.file c.in_ok-gates.ensures.rests keeps there stand in
-    run_recoverable g.D.Disk.view store.jobs kept after mid new (InFileOnly Chooser (g.D.Disk.view.may_leave mid) T)
+    run_recoverable g.D.Disk.view store.size kept after mid new (InFileOnly Chooser (g.D.Disk.view.may_leave mid) T)
     (λ start image le left. g.met.D.Disk.counts_now new start image (c.write_synced.ensures.honest.1 there) le left) second (c.write_synced.ensures.images there)
 
 pub returns-in_err-write_synced-clause-memory : goal.returns-in_err-write_synced-clause-memory
@@ -162,7 +162,7 @@ returns-in_err-write_synced-clause-memory g c memory =
     rests_in_chooser g.D.Disk.view mid store rests new T c.write_synced.ensures.honest.0 (c.write_synced.ensures.unchanged none) (c.write_synced.ensures.still_durable none) only
 
 pub returns-in-Base-clause-keeps : goal.returns-in-Base-clause-keeps
-returns-in-Base-clause-keeps g c kept keeps = subst (λ delta. BodiesStand c.args.self.now.jobs (bodies_of c.in_ok-gates.gates) (after_delta delta kept)) (sym c.in-Base.is) (c.in_ok-gates.ensures.stand kept keeps)
+returns-in-Base-clause-keeps g c kept keeps = subst (λ delta. BodiesStand c.args.self.now.size (bodies_of c.in_ok-gates.gates) (after_delta delta kept)) (sym c.in-Base.is) (c.in_ok-gates.ensures.stand kept keeps)
 
 pub returns-in-Base-clause-rests : goal.returns-in-Base-clause-rests
 returns-in-Base-clause-rests g c =
@@ -179,8 +179,8 @@ returns-in-Base-clause-rests g c =
     let keeps = c.requires.rests.keeps in
     let differs : file_no gates ≢ Chooser = λ is. other_is_area (area_of store) (sym c.in_ok-gates.ensures.file ∙ is) in
     let byte = subst (λ bit. InFile Chooser (HoldsPiece 0 (bit ∷ [])) (g.D.Disk.view.seen mid) (g.D.Disk.view.seen new)) (c.bit_of.ensures ∙ ap bit_of c.file.ensures) c.in_ok-write_synced.ensures.written in
-    rests_by_chooser g.D.Disk.view mid store rests new (record { alloc = store.alloc; jobs = store.jobs; gates = gates }) T c.write_synced.ensures.honest.0 differs c.in_ok-gates.ensures.rests byte c.in_ok-write_synced.ensures.durable only
-    (after_delta c.args.delta.now keeps.0, subst (λ delta. BodiesStand store.jobs (bodies_of gates) (after_delta delta keeps.0)) (sym c.in-Base.is) (c.in_ok-gates.ensures.stand keeps.0 keeps.1))
+    rests_by_chooser g.D.Disk.view mid store rests new (record { alloc = store.alloc; size = store.size; gates = gates }) T c.write_synced.ensures.honest.0 differs c.in_ok-gates.ensures.rests byte c.in_ok-write_synced.ensures.durable only
+    (after_delta c.args.delta.now keeps.0, subst (λ delta. BodiesStand store.size (bodies_of gates) (after_delta delta keeps.0)) (sym c.in-Base.is) (c.in_ok-gates.ensures.stand keeps.0 keeps.1))
 
 -- ---- a record
 
@@ -192,9 +192,9 @@ returns-in_err-append-clause-images g c kept keeps honest =
     let after = after_delta c.args.delta.now kept in
     let body = c.record_bytes.result in
     let Q = InFileOnly (area_of store) (g.D.Disk.view.may_leave old) (IsStaged (bodies_of store.gates) (Some body)) in
-    let stand = change_stands store.jobs (bodies_of store.gates) body c.in-Some.item kept c.args.delta.now keeps (c.requires.follows kept keeps) (sym c.delta_record.ensures ∙ c.in-Some.is) c.record_bytes.ensures.is_record in
+    let stand = change_stands store.size (bodies_of store.gates) body c.in-Some.item kept c.args.delta.now keeps (c.requires.follows kept keeps) (sym c.delta_record.ensures ∙ c.in-Some.is) c.record_bytes.ensures.is_record in
     let recoverable = append_recoverable g.D.Disk.view old store c.requires.rests kept after body keeps honest stand in
-    run_stands g.D.Disk.view store.jobs kept after old new Q recoverable (c.append.ensures.images honest)
+    run_stands g.D.Disk.view store.size kept after old new Q recoverable (c.append.ensures.images honest)
 
 pub returns-in_err-append-clause-recoverable : goal.returns-in_err-append-clause-recoverable
 returns-in_err-append-clause-recoverable g c kept keeps honest =
@@ -204,9 +204,9 @@ returns-in_err-append-clause-recoverable g c kept keeps honest =
     let after = after_delta c.args.delta.now kept in
     let body = c.record_bytes.result in
     let Q = InFileOnly (area_of store) (g.D.Disk.view.may_leave old) (IsStaged (bodies_of store.gates) (Some body)) in
-    let stand = change_stands store.jobs (bodies_of store.gates) body c.in-Some.item kept c.args.delta.now keeps (c.requires.follows kept keeps) (sym c.delta_record.ensures ∙ c.in-Some.is) c.record_bytes.ensures.is_record in
+    let stand = change_stands store.size (bodies_of store.gates) body c.in-Some.item kept c.args.delta.now keeps (c.requires.follows kept keeps) (sym c.delta_record.ensures ∙ c.in-Some.is) c.record_bytes.ensures.is_record in
     let recoverable = append_recoverable g.D.Disk.view old store c.requires.rests kept after body keeps honest stand in
-    run_recoverable g.D.Disk.view store.jobs kept after old new Q (λ start image le left. g.met.D.Disk.counts_now new start image (c.append.ensures.answer.honest_still.1 honest) le left) recoverable (c.append.ensures.images honest)
+    run_recoverable g.D.Disk.view store.size kept after old new Q (λ start image le left. g.met.D.Disk.counts_now new start image (c.append.ensures.answer.honest_still.1 honest) le left) recoverable (c.append.ensures.images honest)
 
 pub returns-clause-images : goal.returns-clause-images
 returns-clause-images g c kept keeps honest =
@@ -216,9 +216,9 @@ returns-clause-images g c kept keeps honest =
     let after = after_delta c.args.delta.now kept in
     let body = c.record_bytes.result in
     let Q = InFileOnly (area_of store) (g.D.Disk.view.may_leave old) (IsStaged (bodies_of store.gates) (Some body)) in
-    let stand = change_stands store.jobs (bodies_of store.gates) body c.in-Some.item kept c.args.delta.now keeps (c.requires.follows kept keeps) (sym c.delta_record.ensures ∙ c.in-Some.is) c.record_bytes.ensures.is_record in
+    let stand = change_stands store.size (bodies_of store.gates) body c.in-Some.item kept c.args.delta.now keeps (c.requires.follows kept keeps) (sym c.delta_record.ensures ∙ c.in-Some.is) c.record_bytes.ensures.is_record in
     let recoverable = append_recoverable g.D.Disk.view old store c.requires.rests kept after body keeps honest stand in
-    run_stands g.D.Disk.view store.jobs kept after old new Q recoverable (c.append.ensures.images honest)
+    run_stands g.D.Disk.view store.size kept after old new Q recoverable (c.append.ensures.images honest)
 
 pub returns-clause-recoverable : goal.returns-clause-recoverable
 returns-clause-recoverable g c kept keeps honest =
@@ -228,46 +228,46 @@ returns-clause-recoverable g c kept keeps honest =
     let after = after_delta c.args.delta.now kept in
     let body = c.record_bytes.result in
     let Q = InFileOnly (area_of store) (g.D.Disk.view.may_leave old) (IsStaged (bodies_of store.gates) (Some body)) in
-    let stand = change_stands store.jobs (bodies_of store.gates) body c.in-Some.item kept c.args.delta.now keeps (c.requires.follows kept keeps) (sym c.delta_record.ensures ∙ c.in-Some.is) c.record_bytes.ensures.is_record in
+    let stand = change_stands store.size (bodies_of store.gates) body c.in-Some.item kept c.args.delta.now keeps (c.requires.follows kept keeps) (sym c.delta_record.ensures ∙ c.in-Some.is) c.record_bytes.ensures.is_record in
     let recoverable = append_recoverable g.D.Disk.view old store c.requires.rests kept after body keeps honest stand in
-    run_recoverable g.D.Disk.view store.jobs kept after old new Q (λ start image le left. g.met.D.Disk.counts_now new start image (c.append.ensures.answer.honest_still.1 honest) le left) recoverable (c.append.ensures.images honest)
+    run_recoverable g.D.Disk.view store.size kept after old new Q (λ start image le left. g.met.D.Disk.counts_now new start image (c.append.ensures.answer.honest_still.1 honest) le left) recoverable (c.append.ensures.images honest)
 
 pub returns-in_err-append-clause-memory : goal.returns-in_err-append-clause-memory
 returns-in_err-append-clause-memory g c memory =
     let old = c.args.disk.now in
     let new = c.append.new.disk in
     let store = c.args.self.now in
-    let now : Store = record { alloc = store.alloc; jobs = store.jobs; gates = c.append.new.self } in
+    let now : Store = record { alloc = store.alloc; size = store.size; gates = c.append.new.self } in
     let keeps = c.requires.rests.keeps in
     let P = IsStaged (bodies_of store.gates) (Some c.record_bytes.result) in
     let only : g.D.Disk.view.honest old → (image : Image) → g.D.Disk.view.may_leave new image → InFileOnly (area_of store) (g.D.Disk.view.may_leave old) P image =
     λ is. now_in_run g.D.Disk.view old new (InFileOnly (area_of store) (g.D.Disk.view.may_leave old) P) (λ start image le left. g.met.D.Disk.counts_now new start image (c.append.ensures.answer.honest_still.1 is) le left) (c.append.ensures.images is) in
     let none = gates_handed_on c.in_err-append.field-0.0 c.append.result c.from_residual-in_err-append.result c.in_err-append.was c.from_residual-in_err-append.ensures.1 memory in
     rests_in_area g.D.Disk.view old store c.requires.rests new now P c.append.ensures.answer.honest_still.0 (c.append.ensures.memory none) c.append.ensures.file (c.append.ensures.memory_others none) only
-    (keeps.0, subst (λ bodies. BodiesStand store.jobs bodies keeps.0) (sym c.in_err-append.ensures.kept) keeps.1)
+    (keeps.0, subst (λ bodies. BodiesStand store.size bodies keeps.0) (sym c.in_err-append.ensures.kept) keeps.1)
 
 pub returns-in_err-append-clause-memory_keeps : goal.returns-in_err-append-clause-memory_keeps
-returns-in_err-append-clause-memory_keeps g c kept keeps memory = subst (λ bodies. BodiesStand c.args.self.now.jobs bodies kept) (sym c.in_err-append.ensures.kept) keeps
+returns-in_err-append-clause-memory_keeps g c kept keeps memory = subst (λ bodies. BodiesStand c.args.self.now.size bodies kept) (sym c.in_err-append.ensures.kept) keeps
 
 pub returns-clause-keeps : goal.returns-clause-keeps
 returns-clause-keeps g c kept keeps =
     let store = c.args.self.now in
-    subst (λ bodies. BodiesStand store.jobs bodies (after_delta c.args.delta.now kept)) (sym c.in_ok-append.ensures.bodies)
-    (change_stands store.jobs (bodies_of store.gates) c.record_bytes.result c.in-Some.item kept c.args.delta.now keeps (c.requires.follows kept keeps) (sym c.delta_record.ensures ∙ c.in-Some.is) c.record_bytes.ensures.is_record)
+    subst (λ bodies. BodiesStand store.size bodies (after_delta c.args.delta.now kept)) (sym c.in_ok-append.ensures.bodies)
+    (change_stands store.size (bodies_of store.gates) c.record_bytes.result c.in-Some.item kept c.args.delta.now keeps (c.requires.follows kept keeps) (sym c.delta_record.ensures ∙ c.in-Some.is) c.record_bytes.ensures.is_record)
 
 pub returns-clause-rests : goal.returns-clause-rests
 returns-clause-rests g c =
     let old = c.args.disk.now in
     let new = c.append.new.disk in
     let store = c.args.self.now in
-    let now : Store = record { alloc = store.alloc; jobs = store.jobs; gates = c.append.new.self } in
+    let now : Store = record { alloc = store.alloc; size = store.size; gates = c.append.new.self } in
     let keeps = c.requires.rests.keeps in
     let P = IsStaged (bodies_of store.gates) (Some c.record_bytes.result) in
     let only : g.D.Disk.view.honest old → (image : Image) → g.D.Disk.view.may_leave new image → InFileOnly (area_of store) (g.D.Disk.view.may_leave old) P image =
     λ is. now_in_run g.D.Disk.view old new (InFileOnly (area_of store) (g.D.Disk.view.may_leave old) P) (λ start image le left. g.met.D.Disk.counts_now new start image (c.append.ensures.answer.honest_still.1 is) le left) (c.append.ensures.images is) in
-    let stand = change_stands store.jobs (bodies_of store.gates) c.record_bytes.result c.in-Some.item keeps.0 c.args.delta.now keeps.1 (c.requires.follows keeps.0 keeps.1) (sym c.delta_record.ensures ∙ c.in-Some.is) c.record_bytes.ensures.is_record in
+    let stand = change_stands store.size (bodies_of store.gates) c.record_bytes.result c.in-Some.item keeps.0 c.args.delta.now keeps.1 (c.requires.follows keeps.0 keeps.1) (sym c.delta_record.ensures ∙ c.in-Some.is) c.record_bytes.ensures.is_record in
     rests_in_area g.D.Disk.view old store c.requires.rests new now P c.append.ensures.answer.honest_still.0 c.in_ok-append.ensures.rests c.append.ensures.file c.in_ok-append.ensures.others only
-    (after_delta c.args.delta.now keeps.0, subst (λ bodies. BodiesStand store.jobs bodies (after_delta c.args.delta.now keeps.0)) (sym c.in_ok-append.ensures.bodies) stand)
+    (after_delta c.args.delta.now keeps.0, subst (λ bodies. BodiesStand store.size bodies (after_delta c.args.delta.now keeps.0)) (sym c.in_ok-append.ensures.bodies) stand)
 
 -- ---- which calls were done
 

@@ -19,7 +19,7 @@ pub returns-in_err-kept-clause-undamaged : goal.returns-in_err-kept-clause-undam
 returns-in_err-kept-clause-undamaged g c gate damaged =
     let fault = c.in_err-kept.field-0.0 in
     let keeps = c.requires.rests.keeps in
-    let stand = subst (λ bodies. StandFor c.args.self.now.jobs bodies keeps.0 keeps.1.0) (sym c.bodies.ensures) keeps.1.1 in
+    let stand = subst (λ bodies. StandFor c.args.self.now.size bodies keeps.0 keeps.1.0) (sym c.bodies.ensures) keeps.1.1 in
     not_memory fault gate (c.in_err-kept.ensures.only keeps.0 keeps.1.0 stand) (damaged_below fault gate c.from_residual.result c.from_residual.ensures.1 damaged)
 
 -- ---- which calls were done
@@ -31,7 +31,7 @@ returns-in_err-rewrite-clause-told g c kept own stand =
     let rows = c.args.rows.now in
     let old = g.D.Disk.view.told c.args.disk.now in
     let new = g.D.Disk.view.told c.rewrite.new.disk in
-    let same = c.in_ok-kept.ensures.only kept own (subst (λ bodies. StandFor store.jobs bodies kept own) (sym c.bodies.ensures) stand) in
+    let same = c.in_ok-kept.ensures.only kept own (subst (λ bodies. StandFor store.size bodies kept own) (sym c.bodies.ensures) stand) in
     let other : c.other_area-other.result ≡ other_area (area_of store) = c.other_area-other.ensures ∙ ap other_area c.file.ensures in
     let items : c.in_ok-bodies.bodies.items ≡ map record_bytes (base_records kept own slot rows) =
     c.in_ok-bodies.ensures.bodies ∙ ap (λ k. map record_bytes (base_records k c.in_ok-kept.own slot rows)) same.0 ∙ ap (λ o. map record_bytes (base_records kept o slot rows)) same.1 in
@@ -49,7 +49,7 @@ returns-clause-told g c kept own stand =
     let rows = c.args.rows.now in
     let old = g.D.Disk.view.told c.args.disk.now in
     let new = g.D.Disk.view.told c.rewrite.new.disk in
-    let same = c.in_ok-kept.ensures.only kept own (subst (λ bodies. StandFor store.jobs bodies kept own) (sym c.bodies.ensures) stand) in
+    let same = c.in_ok-kept.ensures.only kept own (subst (λ bodies. StandFor store.size bodies kept own) (sym c.bodies.ensures) stand) in
     let other : c.other_area-other.result ≡ other_area (area_of store) = c.other_area-other.ensures ∙ ap other_area c.file.ensures in
     let items : c.in_ok-bodies.bodies.items ≡ map record_bytes (base_records kept own slot rows) =
     c.in_ok-bodies.ensures.bodies ∙ ap (λ k. map record_bytes (base_records k c.in_ok-kept.own slot rows)) same.0 ∙ ap (λ o. map record_bytes (base_records kept o slot rows)) same.1 in
@@ -63,11 +63,11 @@ returns-clause-told g c kept own stand =
 pub returns-in_err-rewrite-clause-stopped_spelled : goal.returns-in_err-rewrite-clause-stopped_spelled
 returns-in_err-rewrite-clause-stopped_spelled g c kept own stand stopped =
     let store = c.args.self.now in
-    let same = c.in_ok-kept.ensures.only kept own (subst (λ bodies. StandFor store.jobs bodies kept own) (sym c.bodies.ensures) stand) in
+    let same = c.in_ok-kept.ensures.only kept own (subst (λ bodies. StandFor store.size bodies kept own) (sym c.bodies.ensures) stand) in
     base_is_spelled c.in_ok-bodies.bodies.items c.in_ok-kept.kept kept c.in_ok-kept.own own c.args.slot c.args.rows.now c.in_ok-bodies.ensures.bodies c.in_ok-bodies.ensures.records same.0 same.1
 
 pub returns-clause-spelled : goal.returns-clause-spelled
 returns-clause-spelled g c kept own stand =
     let store = c.args.self.now in
-    let same = c.in_ok-kept.ensures.only kept own (subst (λ bodies. StandFor store.jobs bodies kept own) (sym c.bodies.ensures) stand) in
+    let same = c.in_ok-kept.ensures.only kept own (subst (λ bodies. StandFor store.size bodies kept own) (sym c.bodies.ensures) stand) in
     base_is_spelled c.in_ok-bodies.bodies.items c.in_ok-kept.kept kept c.in_ok-kept.own own c.args.slot c.args.rows.now c.in_ok-bodies.ensures.bodies c.in_ok-bodies.ensures.records same.0 same.1

@@ -44,7 +44,7 @@ returns c =
     let prefix : c.prefix.result ≡ posted.prefix = c.prefix.ensures ∙ ap (λ (p : Posted). p.prefix) c.get.ensures in
     let order : c.self.inside.prefix ≤ posted.prefix = omega (arith, c.if-prefix.false, prefix) in record {
       board = board ∙ ap (λ (r : Sight). r.board) c.self.view_is;
-      jobs = ap (λ (r : Sight). r.jobs) c.self.view_is;
+      total = ap (λ (r : Sight). r.total) c.self.view_is;
       begins = subst (λ (r : Sight). IsPrefix r.states posted.states) c.self.view_is
           (mine_first mine posted.states c.learn.new.self.log _ posted.prefix fronts c.self.invariant.1 (posted.rows, saw.1) order);
       last = saw.1;

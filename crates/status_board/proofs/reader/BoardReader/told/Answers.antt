@@ -35,7 +35,7 @@ invariant_of-result-2 c =
     let same = c.again.ensures in (
       c.self.invariant.0 ∙ ap (λ (b : Book). Some (board_name_of b)) (sym board ∙ sym (ap (λ s. s.book) same)),
       subst (λ (l : List Shown). HasLastPrefix l c.mark.inside.prefix) (sym (ap (λ s. s.log) same)) c.mark.invariant,
-      subst (λ (l : List Shown). IsHistory c.self.inside.jobs l) (sym (ap (λ s. s.log) same))
+      subst (λ (l : List Shown). IsHistory c.self.inside.total l) (sym (ap (λ s. s.log) same))
           (front_history _ mine others c.learn.new.self.log _ fronts c.self.invariant.2 c.mark.invariant),
     )
 

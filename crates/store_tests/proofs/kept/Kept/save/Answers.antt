@@ -9,10 +9,10 @@ use Rattle.store_tests.proofs.kept.Kept.save.Goals as goal
 pub save-requires-clause-follows : goal.save-requires-clause-follows
 save-requires-clause-follows g c kept keeps =
     let store = c.args.self.now.store in
-    let same = bodies_stand_for_one store.jobs (bodies_of store.gates) c.args.self.now.durable kept c.requires.keeps keeps in
-    subst (λ durable. ChangeMayFollow store.jobs durable c.args.delta) same (subst (λ jobs. ChangeMayFollow jobs c.args.self.now.durable c.args.delta) (sym c.requires.jobs) c.requires.follows)
+    let same = bodies_stand_for_one store.size (bodies_of store.gates) c.args.self.now.durable kept c.requires.keeps keeps in
+    subst (λ durable. ChangeMayFollow store.size durable c.args.delta) same (subst (λ size. ChangeMayFollow size c.args.self.now.durable c.args.delta) (sym c.requires.size) c.requires.follows)
 
 pub returns-clause-keeps : goal.returns-clause-keeps
 returns-clause-keeps g c =
     let store = c.save.new.self in
-    subst (λ durable. BodiesStand store.jobs (bodies_of store.gates) durable) (sym c.in_ok-take.ensures) (c.in_ok-save.ensures.keeps c.args.self.now.durable c.requires.keeps)
+    subst (λ durable. BodiesStand store.size (bodies_of store.gates) durable) (sym c.in_ok-take.ensures) (c.in_ok-save.ensures.keeps c.args.self.now.durable c.requires.keeps)
