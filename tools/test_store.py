@@ -8,20 +8,26 @@ import unittest
 from unittest import mock
 
 from small_world.disk import Disk
-from small_world.files import BODY
+from small_world.files import BODY, base_bodies, kept_by
 from small_world.laws import Broken
 from small_world.launches import LAUNCH, NOOP, End, Row, Start
 from small_world.letters import fault_of, letter_bytes, packets_in
-from small_world.replica import Accept, Accepted, AskFrom, Known, Lead, Nack, Prepare, Promise, Snap, Vote
+from small_world.replica import Accept, Accepted, AskFrom, Kept, Known, Lead, Nack, Prepare, Promise, Snap, Vote
 from small_world.store import text_of
 from small_world.store_made import Commands
 
 SEEDS = range(60)
-FRESH = ["kept: tried 0, promised none, base 0", "row job 0"]
-TRIED = ["kept: tried 1, promised 1.0, base 0", "row job 0"]
+FRESH = ["kept: tried 0, promised none, base 0", "row job 0", "row table"]
+TRIED = ["kept: tried 1, promised 1.0, base 0", "row job 0", "row table"]
 # The record of ballot 1.0 as one that is tried, behind an open gate and before a shut one.
 RECORD = f"01{'01' + 14 * '00' + '08' + 40 * '00'}00"
 PREPARE = "01010000" + "00000000" + "0000000000000009" + 40 * "00"
+# The rows of a table with one job.
+ROWS = [Row(20, 21, None, 1, 2), Row()]
+# Rows that aren't those of such a table: one too few, as they were before the table had a row of its own; one too many; and with a last
+# one that has what the table's own may not have.
+OTHER_OWN = [Row(20), Row(20, 21), Row(last=20), Row(launched=1), Row(20, launched=1), Row(voided=1)]
+OTHER_ROWS = [[Row()], [Row()] * 3, *([Row(), own] for own in OTHER_OWN)]
 PACKETS = [
     Known(0, NOOP),
     Known(1, Start(1, 20, 21)),
@@ -30,7 +36,7 @@ PACKETS = [
     Accepted(9, 2),
     AskFrom(7),
     Lead(9, 8),
-    Snap(5, [Row(20, 21, None, 1, 2), Row()]),
+    Snap(5, ROWS),
 ]
 
 
@@ -60,6 +66,22 @@ class Stores(unittest.TestCase):
         base = "attach", "save base 1; row job 0"
         self.assertEqual(told(*base, "stop", "files")[0], "chooser 01")
         self.assertEqual(told(*base, "save base 2; row job 0", "stop", "files")[0], "chooser 00")
+
+    def test_the_rows_of_a_base(self):
+        """The table's own row stands behind those of the jobs. It needn't be told, and another one doesn't stand."""
+        saved = ["kept: tried 0, promised none, base 1", "row job 0, launched 2", "row table"]
+        for rows in ("row job 0, launched 2", "row job 0, launched 2; row table"):
+            self.assertEqual(told("attach", f"save base 1; {rows}", "keeps"), saved)
+        for rows in ("row table", "row job 0; row job 1", "row job 0; row job 1; row table", "row job 0; row table, launched 1"):
+            self.assertEqual(told("attach", f"save base 1; {rows}"), ["refused: the change may not follow what is kept"])
+
+    def test_rows_that_stand_for_nothing(self):
+        def kept(rows):
+            return kept_by([BODY.unpack(one) for one in base_bodies(Kept(0, 0, {}, 0, []), 0, 5, rows)], ["a job"])
+
+        self.assertEqual(kept(ROWS), Kept(0, 0, {}, 5, ROWS))
+        for rows in OTHER_ROWS:
+            self.assertIsNone(kept(rows), rows)
 
     def test_what_an_attach_does(self):
         """It syncs the chooser and an area, and writes and syncs a gate."""
@@ -94,6 +116,13 @@ class Nodes(unittest.TestCase):
         self.assertEqual(told("start", f"hear {PREPARE[:-2]}"), ["fault Letter(BadLength { packet: 0 })"])
         self.assertEqual(told("start", f"hear {PREPARE}{PREPARE}"), ["fault Letter(BadGroup { packet: 1 })"])
         self.assertEqual(told("start", "tick 2024-03-31T01:00Z")[0][:27], "refused: the stamp is outsi")
+
+    def test_snapshots(self):
+        """A letter whose snapshot hasn't the rows of the table is heard as one without packets."""
+        change = "delta base 5; row job 0, cursor minute 20, open minute 21, launched 1, voided 2; row table"
+        for rows in (ROWS, *OTHER_ROWS):
+            heard = told("start", f"hear {letter_bytes(1, [Snap(5, rows)]).hex()}")
+            self.assertEqual(heard, [change] if rows == ROWS else [], rows)
 
     def test_numbers_beyond_bounds(self):
         saved = "attach", f"save tried {2**59}.0", "stop", "start"

@@ -59,7 +59,7 @@ pub struct Replica {
 impl Replica {
     /// A replica that starts with what its disk has.
     pub fn start(me: usize, run: &Rc<Run>, disk: Disk) -> Replica {
-        let rows = vec![Row::default(); run.dues.len()];
+        let rows = Table::fresh_rows(run);
         let (run, table) = (Rc::clone(run), Table::of(run, &rows));
         let (votes, learned, term) = (Votes::new(), Vec::new(), Term::Follower);
         let mut it =

@@ -34,7 +34,8 @@ pub struct Call {
     pub by: usize,
 }
 
-/// The launch table, with the next due instants of the jobs that aren't open, and the jobs that are.
+/// The launch table: a row for each job, and the table's own, in which there is nothing; with the next due instants of
+/// the jobs that aren't open, and the jobs that are.
 pub struct Table {
     run: Rc<Run>,
     pub rows: Vec<Row>,
@@ -43,10 +44,15 @@ pub struct Table {
 }
 
 impl Table {
+    /// The rows at first.
+    pub fn fresh_rows(run: &Run) -> Vec<Row> {
+        vec![Row::default(); run.dues.len() + 1]
+    }
+
     pub fn of(run: &Rc<Run>, rows: &[Row]) -> Table {
         let mut table =
             Table { run: Rc::clone(run), rows: rows.to_vec(), idle: BTreeSet::new(), open: BTreeSet::new() };
-        for job in 0..rows.len() {
+        for job in 0..run.dues.len() {
             table.place(job as u32);
         }
         table

@@ -2,7 +2,7 @@
 where the disk stops within one of these, and what they stand for."""
 import struct
 
-from .launches import LAUNCH, NOOP, VOID, End, Row, Start, fresh_rows
+from .launches import LAUNCH, NOOP, VOID, End, Row, Start, fresh_rows, rows_stand
 from .replica import Kept, Vote
 
 # Of a record the kind, from, the tag, 0, the job, the ballot, the slot, old, at, now and last; before it stands a gate.
@@ -120,13 +120,15 @@ def kept_by(records, jobs):
     kept = Kept(0, 0, {}, 0, fresh_rows(jobs))
     if records and records[0][0] == BASE:
         base, count = records[0][6], records[0][7]
-        rows, records = records[1 : 1 + count], records[1 + count :]
-        if count != len(jobs) or [(row[0], row[4], row[6]) for row in rows] != [(ROW, job, base) for job in range(count)]:
+        group, records = records[1 : 1 + count], records[1 + count :]
+        in_order = [(record[0], record[4], record[6]) for record in group] == [(ROW, place, base) for place in range(count)]
+        rows = [row_of(record) for record in group]
+        if not in_order or not rows_stand(rows, jobs):
             return None
         copy, records = records[: copy_length(records, base)], records[copy_length(records, base) :]
         votes = {record[6]: Vote(record[5], change_of(record)[3]) for record in copy if record[0] == VOTED}
         tried = sum(record[5] // 8 for record in copy if record[0] == TRIED)
-        kept = Kept(tried, max((record[5] for record in copy), default=0), votes, base, [row_of(row) for row in rows])
+        kept = Kept(tried, max((record[5] for record in copy), default=0), votes, base, rows)
     for record in records:
         if record[0] not in (TRIED, PROMISED, VOTED) or not may_follow(kept, change_of(record)):
             return None

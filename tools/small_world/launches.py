@@ -25,7 +25,9 @@ NOOP = None
 
 
 class Row(NamedTuple):
-    """What is known of a job: which launch started last, when that was decided if it is open, which was made last."""
+    """What is known of a job: which launch started last, when that was decided if it is open, which was made last. Behind the rows of
+    the jobs stands the table's own: its cursor is the minute since when a version of the table is in force, `launched` is the version.
+    The first one, 0, is in force without such a minute."""
 
     cursor: Optional[int] = None
     open_now: Optional[int] = None
@@ -44,8 +46,24 @@ class Call(NamedTuple):
     by: int
 
 
+# How many versions a table of jobs has.
+VERSIONS = 1
+
+
 def fresh_rows(jobs):
-    return [Row()] * len(jobs)
+    """A launch table at first: a row for each job, and the table's own."""
+    return [Row()] * (len(jobs) + 1)
+
+
+def is_table_row(row):
+    """Whether a row may be the table's own."""
+    is_idle = row.open_now is None and row.last is None and row.voided == 0
+    return is_idle and row.launched < VERSIONS and (row.cursor is None) == (row.launched == 0)
+
+
+def rows_stand(rows, jobs):
+    """Whether rows, which are in order, are those of a table of these jobs."""
+    return len(rows) == len(jobs) + 1 and is_table_row(rows[-1])
 
 
 def is_open(rows, job, at):
@@ -76,14 +94,14 @@ def apply(jobs, rows, entry):
 def choose(run, rows, now, by):
     """What a leader does next by its launch table: call the first launch that is open and has come, or else start the first one
     that may start, or nothing."""
-    for job, row in enumerate(rows):
-        if row.open_now is not None and run.jobs[job].has_come(row.cursor, now):
-            in_time = run.jobs[job].is_in_time(row.cursor, now, run.grace)
-            return Call(job, row.cursor, LAUNCH if in_time else VOID, now, by)
-    for job, row in enumerate(rows):
-        at = run.jobs[job].start_at(row, now) if row.open_now is None else None
+    for number, (job, row) in enumerate(zip(run.jobs, rows)):
+        if row.open_now is not None and job.has_come(row.cursor, now):
+            in_time = job.is_in_time(row.cursor, now, run.grace)
+            return Call(number, row.cursor, LAUNCH if in_time else VOID, now, by)
+    for number, (job, row) in enumerate(zip(run.jobs, rows)):
+        at = job.start_at(row, now) if row.open_now is None else None
         if at is not None:
-            return Start(job, at, now)
+            return Start(number, at, now)
     return None
 
 

@@ -177,7 +177,7 @@ class WatchedWorld(World):
         cursor, and those until what it does now is chosen."""
         leader = self.replicas[who]
         bound = sum(max(0, slot + 1 - leader.prefix) for slot in leader.term.best)
-        work = bound + sum(left_in(row, self.run.end) for row in leader.launches)
+        work = bound + sum(left_in(row, self.run.end) for _, row in zip(self.run.jobs, leader.launches))
         due = len(leader.learned) >= MOST_ENTRIES
         if leader.term.flight:
             return 7 * work + 3 - leader.term.flight.waited + due

@@ -5,7 +5,7 @@ from datetime import timezone
 
 from .instants import Zone, minute_of, stamp_of
 from .jobs import Entry
-from .launches import NOOP, Row, Start
+from .launches import NOOP, Row, Start, fresh_rows, rows_stand
 from .replica import Accept, Accepted, AskFrom, Known, Lead, Prepare, Promise, Replica, Snap
 from .words import Words, term_words
 
@@ -61,7 +61,7 @@ def packets_of(text):
         if kind == "known":
             yield from (Known(slot, NOOP) for slot in range(int(words[0]), int(words[-1]) + 1))
         elif kind == "snapshot":
-            yield Snap(int(words[0]), [row_of(row)] * int(words[1]))
+            yield Snap(int(words[0]), [row_of(row)] * int(words[1]) + [Row()])
         elif kind == "ask":
             yield AskFrom(int(words[0]))
         else:
@@ -72,9 +72,9 @@ def packets_of(text):
 
 def is_within(packet, jobs):
     """Whether a packet is within the bounds."""
-    counts = [count for row in getattr(packet, "rows", []) for count in (row.launched, row.voided)]
+    rows = getattr(packet, "rows", fresh_rows(jobs))
     slots = getattr(packet, "ballot", 0) // 8 < ROUNDS and getattr(packet, "slot", 0) < SLOTS
-    return slots and len(getattr(packet, "rows", jobs)) == len(jobs) and all(count < COUNTS for count in counts)
+    return slots and rows_stand(rows, jobs) and all(count < COUNTS for row in rows for count in (row.launched, row.voided))
 
 
 class Scenario:

@@ -6,11 +6,11 @@ from .disk import KEPT, Arm, Disk
 from .files import BODY, GATED, SHUT, Areas, kept_by, may_follow, record_of
 from .instants import Zone, minute_of, stamp_of
 from .jobs import Entry
-from .launches import NOOP, End, Row, Start
+from .launches import NOOP, End, Row, Start, rows_stand
 from .laws import Broken
 from .letters import fault_of, letter_bytes, packets_in
 from .replica import Replica
-from .scenarios import COUNTS, ROUNDS, SLOTS, ScenarioWords, ballot_of, copied, is_within
+from .scenarios import COUNTS, ROUNDS, SLOTS, ScenarioWords, ballot_of, copied, is_within, row_of
 from .words import ballot_words
 
 FIRST = minute_of("2024-03-31T00:00Z")
@@ -132,12 +132,15 @@ def entry_of(text):
     return Start(int(job), minute_of(at), minute_of(rest[-1] if rest else at))
 
 
-def row_of(text):
-    """The job of a row, and the row."""
-    first, *parts = text.split(", ")
-    told = dict(part.split(" ") for part in parts)
-    instants = [minute_of(told[name]) if name in told else None for name in ("cursor", "open", "last")]
-    return int(first.rpartition(" ")[2]), Row(*instants, int(told.get("launched", 0)), int(told.get("voided", 0)))
+def base_of(text):
+    """A base; nothing where its rows aren't in order. Where the table's own row isn't told, it is fresh."""
+    jobs, has_table, table = text.partition("; row table")
+    slot, *rows = jobs.split("; ")
+    told = [row.split(", ") for row in rows]
+    if [first for first, *_ in told] != [f"row job {job}" for job in range(len(rows))]:
+        return None
+    own = row_of(table.split(", ")[1:]) if has_table else Row()
+    return "base", int(slot), [*(row_of(parts) for _, *parts in told), own]
 
 
 def change_of(text):
@@ -146,11 +149,7 @@ def change_of(text):
     if kind == "voted":
         ballot, _, slot, entry = rest.split(" ", 3)
         return kind, int(slot), ballot_of(ballot), entry_of(entry)
-    if kind != "base":
-        return kind, ballot_of(rest)
-    slot, *rows = rest.split("; ")
-    told = [row_of(row) for row in rows]
-    return (kind, int(slot), [row for _, row in told]) if [job for job, _ in told] == list(range(len(told))) else None
+    return base_of(rest) if kind == "base" else (kind, ballot_of(rest))
 
 
 BARE, STORE, NODE, HALTED = "nothing is attached", "a store is attached", "a node runs", "the node was stopped"
@@ -227,12 +226,11 @@ class Hand:
     def play_keeps(self, _):
         promised = ballot_words(self.kept.promised) if self.kept.promised else "none"
         votes = [f"vote {WORDS.vote(slot, *self.kept.votes[slot])}" for slot in sorted(self.kept.votes)]
-        rows = [WORDS.row(job, row) for job, row in enumerate(self.kept.rows)]
-        return [f"kept: tried {self.kept.tried}, promised {promised}, base {self.kept.base}", *votes, *rows]
+        return [f"kept: tried {self.kept.tried}, promised {promised}, base {self.kept.base}", *votes, *WORDS.rows(self.kept.rows)]
 
     def may_save(self, change):
         if change and change[0] == "base":
-            return change[1] > self.kept.base and len(change[2]) == len(self.run.jobs)
+            return change[1] > self.kept.base and rows_stand(change[2], self.run.jobs)
         return change and may_follow(self.kept, change)
 
     def play_save(self, rest):

@@ -87,9 +87,15 @@ class Commands:
         return Row(cursor, opened if cursor is not None else None, last, *counts)
 
     def rows(self):
-        """The rows of a launch table; seldom one too many or too few."""
-        jobs = self.jobs + (self.chance.choice([-1, 1]) if self.chance.random() < 0.05 else 0)
-        return [self.row() for _ in range(max(0, jobs))]
+        """The rows of a launch table; seldom one too many or too few, or with a last one that isn't the table's own."""
+        jobs, own = [self.row() for _ in range(self.jobs)], Row()
+        others = [jobs, [*jobs, self.row(), own], [*jobs, self.row()], [*jobs, self.spoilt_own()]]
+        return self.chance.choice(others) if self.chance.random() < 0.15 else [*jobs, own]
+
+    def spoilt_own(self):
+        """A row that has a little of what the table's own may not have."""
+        rows = [Row(FIRST), Row(FIRST, FIRST), Row(last=FIRST), Row(launched=1), Row(FIRST, launched=1), Row(voided=1)]
+        return self.chance.choice(rows)
 
     def save(self):
         """A change, mostly one that may follow what is kept."""
@@ -100,7 +106,9 @@ class Commands:
             return WORDS.change((kind, self.ballot(self.chance.randrange(7))))
         if kind == "voted":
             return WORDS.change((kind, self.slot(), self.ballot(self.chance.randrange(7)), self.entry()))
-        return WORDS.change((kind, self.slot() + self.chance.choice([0, 1, 1, 3]), self.rows()))
+        told = WORDS.change((kind, self.slot() + self.chance.choice([0, 1, 1, 3]), self.rows()))
+        # The table's own row needn't be told where it is fresh.
+        return told.removesuffix("; row table") if self.chance.random() < 0.5 else told
 
     # Letters.
 

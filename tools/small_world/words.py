@@ -51,11 +51,16 @@ class Words:
     def vote(self, slot, ballot, entry):
         return f"{ballot_words(ballot)} at {slot} {self.entry(entry)}"
 
-    def row(self, job, row):
+    def rows(self, rows):
+        """The rows of a launch table: one for each job, and the last, which is the table's own."""
+        titles = [*(f"job {job}" for job in range(len(rows) - 1)), "table"]
+        return [self.row(*titled) for titled in zip(titles, rows)]
+
+    def row(self, title, row):
         told = [("cursor", row.cursor), ("open", row.open_now), ("last", row.last)]
         parts = [f"{name} {self.stamp(instant)}" for name, instant in told if instant is not None]
         parts += [f"{name} {count}" for name, count in (("launched", row.launched), ("voided", row.voided)) if count]
-        return ", ".join([f"row job {job}", *parts])
+        return ", ".join([f"row {title}", *parts])
 
     def packets(self, packets):
         """What the packets of a letter say."""
@@ -86,8 +91,7 @@ class Words:
         if kind is Lead:
             return f"lead {ballot_words(packet.ballot)} up to {packet.slot}"
         if kind is Snap:
-            rows = [f"; {self.row(job, row)}" for job, row in enumerate(packet.rows)]
-            return f"snapshot at {packet.slot}, rows {len(rows)}{''.join(rows)}"
+            return "; ".join([f"snapshot at {packet.slot}, rows {len(packet.rows)}", *self.rows(packet.rows)])
         return f"nack {ballot_words(packet.refused)}, promised {ballot_words(packet.ballot)}"
 
     def change(self, change):
@@ -98,5 +102,5 @@ class Words:
         if kind == "voted":
             return f"voted {self.vote(*parts)}"
         if kind == "base":
-            return "; ".join([f"base {parts[0]}", *(self.row(job, row) for job, row in enumerate(parts[1]))])
+            return "; ".join([f"base {parts[0]}", *self.rows(parts[1])])
         return f"{kind} {ballot_words(parts[0])}"
