@@ -51,7 +51,7 @@ module _ (members : ℕ) where
       ap (λ (next : Situation). stepped who course row.turn next) (posted_twin course.here row other rows others twins)
       ∙ ap (λ (turn : Turn). stepped who course turn (after_posted members course.here other)) twins.0
 
-  course_alike : (who : ℕ) (course : Course) (a b more rest : List Row) → length a ≡ length b → AreTwins members course.here.standing (a ++ more) (b ++ rest)
+  pub course_alike : (who : ℕ) (course : Course) (a b more rest : List Row) → length a ≡ length b → AreTwins members course.here.standing (a ++ more) (b ++ rest)
       → fold (after_row_of members who) course a ≡ fold (after_row_of members who) course b
   course_alike who course [] [] more rest size twins = refl
   course_alike who course [] (other ∷ b) more rest size twins = absurd cc

@@ -45,7 +45,7 @@ LeavesStanding change = (situation : Situation) → (change situation).standing 
 
 -- ---- parts that are put together
 
-sets_alike : (members : ℕ) (change : Situation → Situation) → LeavesStanding change → EndAlike members (Sets change) (Sets change)
+pub sets_alike : (members : ℕ) (change : Situation → Situation) → LeavesStanding change → EndAlike members (Sets change) (Sets change)
 sets_alike members change leaves situation a b more rest after behind x y twins =
     let first : more ≡ a ++ more = ap (λ (l : List Row). l ++ more) (sym x.none) in
     let second : rest ≡ b ++ rest = ap (λ (l : List Row). l ++ rest) (sym y.none) in
@@ -61,7 +61,7 @@ sets_alike members change leaves situation a b more rest after behind x y twins 
 stays_alike : (members : ℕ) → EndAlike members Stays Stays
 stays_alike members = sets_alike members (λ here. here) (λ here. refl)
 
-plays_alike : (members : ℕ) (tasks : Situation → List Task) → EndAlike members (Plays members tasks) (Plays members tasks)
+pub plays_alike : (members : ℕ) (tasks : Situation → List Task) → EndAlike members (Plays members tasks) (Plays members tasks)
 plays_alike members tasks situation a b more rest after behind x y twins =
     let size = as_many members situation (tasks situation) a x.turns ∙ sym (as_many members situation (tasks situation) b y.turns) in
     let ends = turned_alike members situation a b more rest size twins in
@@ -90,7 +90,7 @@ then_alike members first second third fourth one two situation a b more rest aft
       twins = next.twins;
     }
 
-plain_alike : (members : ℕ) (tasks : Situation → List Task) (change : Situation → Situation) → LeavesStanding change
+pub plain_alike : (members : ℕ) (tasks : Situation → List Task) (change : Situation → Situation) → LeavesStanding change
     → EndAlike members (Plain members tasks change) (Plain members tasks change)
 plain_alike members tasks change leaves =
     then_alike members (Plays members tasks) (Sets change) (Plays members tasks) (Sets change) (plays_alike members tasks) (sets_alike members change leaves)
@@ -114,7 +114,7 @@ as_many_by members situation (task ∷ tasks) (row ∷ a) (other ∷ b) more res
     (subst (λ (had : Turn). AreTurnsByArms members (after_turn members situation other) (tasks_left had tasks) b) (sym turn) y.1) in
     ap (λ n. suc n) (as_many_by members here (tasks_left row.turn tasks) a b more rest x.1 second others)
 
-plays_by_alike : (members : ℕ) (tasks : Situation → List Task) → EndAlike members (PlaysByArms members tasks) (PlaysByArms members tasks)
+pub plays_by_alike : (members : ℕ) (tasks : Situation → List Task) → EndAlike members (PlaysByArms members tasks) (PlaysByArms members tasks)
 plays_by_alike members tasks situation a b more rest after behind x y twins =
     let size = as_many_by members situation (tasks situation) a b more rest x.turns y.turns twins in
     let ends = turned_alike members situation a b more rest size twins in
@@ -153,7 +153,7 @@ module _ (members : ℕ) (table : Table) (who : ℕ) (at : ℤ) where
   abbrev campaigns : Situation → List Task
   campaigns situation = campaign_tasks who (situation.standing.replicas who).term
 
-  drain_round_alike : EndAlike members (IsDrainRound members table who at) (IsDrainRound members table who at)
+  pub drain_round_alike : EndAlike members (IsDrainRound members table who at) (IsDrainRound members table who at)
   drain_round_alike =
       let campaign = Plays members campaigns in
       let round = Plays members (round_tasks members table.window at) in
@@ -178,7 +178,7 @@ led_alike members table at situation =
     then_alike members stands (Drains members table who at) stands (Drains members table who at)
     (plays_alike members (λ here. Do who Campaign ∷ [])) (drains_alike members table who at) situation
 
-settles_alike : (members : ℕ) (table : Table) (at : ℤ) → EndAlike members (Settles members table at) (Settles members table at)
+pub settles_alike : (members : ℕ) (table : Table) (at : ℤ) → EndAlike members (Settles members table at) (Settles members table at)
 settles_alike members table at =
     let starts = Plain members (restart_tasks members) cleared in
     then_alike members starts (IsLedToQuiet members table at) starts (IsLedToQuiet members table at)
@@ -191,7 +191,7 @@ neither a b Less is not_less not_more = absurd (not_less is)
 neither a b Equal is not_less not_more = is
 neither a b Greater is not_less not_more = absurd (not_more is)
 
-same_minute : (table : Table) (state : State) (above to a b : ℤ) → IsNextMinute table state above to a → IsNextMinute table state above to b → a ≡ b
+pub same_minute : (table : Table) (state : State) (above to a b : ℤ) → IsNextMinute table state above to a → IsNextMinute table state above to b → a ≡ b
 same_minute table state above to a b x y =
     neither a b (int_cmp a b) (int_ranked a b _ refl) (λ lt. x.asks (y.least a x.later lt)) (λ lt. y.asks (x.least b y.later lt))
 

@@ -1,0 +1,13 @@
+pub mod Begins
+pub mod Delivered
+pub mod Judged
+pub mod Quiet
+pub mod Reading
+pub mod Replay
+pub mod Settings
+pub mod Sound
+pub mod Start
+pub mod Taken
+pub mod Tasks
+pub mod Turns
+pub mod Verdict

@@ -1,0 +1,42 @@
+//! What an audit of a run's journal stands on: a replay of the run by the lines of its journal, and laws of which lines
+//! can begin a journal of the run. A `Replay` holds a legal book and the situation after its
+//! turns (`IsReplayAt`). `Rest::read` reads a text line by line. `Replay::judge` says of a line which turn it tells that
+//! may come next, or that it tells none (`Judges`), `Replay::take` lets that turn join the book, and `Replay::go_on` does
+//! both (`GoesOn`). `Replay::set_by`, `arm`, `clear` and `deliver` change what a script sets (`ChangesReplay`), and
+//! `Replay::tasks_for`, `round_tasks`, `restart_tasks`, `standing_tasks` and `campaign_task` give the turns that a
+//! command asks for (`AreAsked`); `is_quiet` and `next_minute` say where settling and walking end.
+//!
+//! Each relation of script_semantics between two situations has one of its first turns (`BeginsPart`, `BeginsWalk`), which
+//! a whole part has too and behind which nothing comes (`a_part_begins_with_its_turns`,
+//! `nothing_comes_after_a_whole_part`). So lines can begin a journal one by one (`CanBegin`,
+//! `a_journal_is_judged_line_by_line`). A text that is a journal of a run is that of the book whose turns it tells
+//! (`IsJournal`, `a_journal_is_that_of_its_book`); no such text has a first line at fault, and no text has two
+//! (`IsAtFault`, `a_text_has_one_verdict`).
+//!
+//! Nothing here plays the parts of a whole journal yet: no call says of a text whether it is a journal of the run, and no
+//! law says that each text is one or has a line at fault.
+#![tactic(auto)]
+
+mod deliver;
+mod judge;
+mod laws;
+mod lines;
+mod quiet;
+mod replay;
+mod setting;
+mod start;
+mod take;
+mod tasks;
+mod turns;
+mod verdict;
+mod words;
+
+pub use judge::Judged;
+pub use laws::{
+    a_journal_is_judged_line_by_line, a_journal_is_that_of_its_book, a_part_begins_with_its_turns,
+    a_text_has_one_verdict, nothing_comes_after_a_whole_part,
+};
+pub use lines::{Next, Rest};
+pub use replay::{Arm, Replay, Seat, Setting};
+pub use tasks::Task;
+pub use verdict::Why;
