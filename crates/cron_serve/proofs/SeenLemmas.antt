@@ -19,7 +19,7 @@ use Rattle.script_text.specs.declared.command.Command.{Command}
 use Rattle.world_law.specs.Book.{BookState, StandsBehind}
 use Rattle.world_law.proofs.Settled.{come_here, turns_settle}
 use Rattle.journal_text.proofs.StartLemmas.{same_begin}
-use Rattle.script_play.specs.Watch.{AreSeen, IsWatched, IsHighest, IsSeen, IsShownTurn, open_jobs, prefix_after}
+use Rattle.script_play.specs.Watch.{AreSeen, IsHighest, IsSeen, IsShownTurn, open_jobs, prefix_after}
 use Rattle.script_play.specs.declared.seen.Seen.{Seen}
 use Rattle.cron_serve.specs.Watch.{IsBookWatch, watch_text}
 

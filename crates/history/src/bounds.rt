@@ -137,8 +137,8 @@ pub fn a_step_keeps_the_launch_table()
 {}
 
 /// What a letter carries that was posted in a legal book of fewer than 2^59 turns is within the bounds that a replica counts with, and a
-/// copy of a launch table has a row for each job. So a letter of fewer than 2^31 packets is heard whole: as the messages that its
-/// sender spelled, and not as none.
+/// copy of a launch table has a row for each job and the table's own. So a letter of fewer than 2^31 packets is heard whole: as the
+/// messages that its sender spelled, and not as none.
 pub fn posted_letters_are_heard_whole()
     ensures within { (members : ℕ) (table : Table) (book : List Row) (letter : PostedLetter) (packets : List Packet) → members ≤ 7 → IsSound table
         → IsLegal members table book → length book < 2 ^ 59 → Contains (standing_after members (first_rows table) book).posted letter

@@ -1,5 +1,5 @@
 //! Starts and ends of launches, in turn.
-ghost use Rattle.std.specs.Prelude.{◌<◌, ◌+◌, ◌^◌, ◌↔◌, IfOk, IsTrue};
+ghost use Rattle.std.specs.Prelude.{◌<◌, ◌+◌, ◌^◌, ◌↔◌, IsTrue};
 ghost use Rattle.launch_machine.specs.Machine.{CanCount, StandsFor};
 ghost use Rattle.paxos_base.specs.Rows.{OpenHasCursor};
 

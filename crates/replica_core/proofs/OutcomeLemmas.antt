@@ -1,5 +1,5 @@
 -- What comes of a step is settled by the replica and by what it is told.
-use Rattle.std.proofs.Common.{◌≡◌, ℕ, Option, None, Some, List, ℤ, length, refl, sym, ap, subst, ◌∙◌}
+use Rattle.std.proofs.Common.{◌≡◌, ℕ, Option, None, Some, List, ℤ, refl, sym, ap, subst, ◌∙◌}
 use Rattle.std.specs.Option.{option_to_list}
 use Rattle.paxos_base.specs.declared.rows.JobRow.{JobRow}
 use Rattle.paxos_letter.proofs.LetterLemmas.{letter_again}

@@ -1,5 +1,5 @@
 -- What a letter that was read is heard as, and what of a draft its letters need.
-use Rattle.std.proofs.Common.{◌≡◌, ◌↔◌, ℕ, ◌<◌, ltb, true, false, List, [], ◌∷◌, map, Option, Some, None, Ok, Err, refl, sym, ap, ◌∙◌, length, ℤ, Bor}
+use Rattle.std.proofs.Common.{◌≡◌, ◌↔◌, ℕ, ◌<◌, ltb, true, false, List, [], ◌∷◌, map, Option, Some, None, Ok, Err, refl, sym, ap, ◌∙◌, ℤ, Bor}
 use Rattle.std.proofs.lemmas.Bool.{and_parts, ltb-true}
 use Rattle.launch_machine.specs.Clerk.{table_size}
 use Rattle.paxos_base.specs.declared.rows.TableSize.{TableSize}

@@ -81,7 +81,7 @@ pub record AreRowsOf (size : TableSize) (rows : List JobRow) : Type 0 where
   pub cursors : OpenHaveCursors rows
   pub counts : CountsBelow (2 ^ 31) rows
 
--- a message that brings a launch table has a row for each job
+-- a message that brings a launch table has a row for each job and the table's own
 abbrev pub BringsRows : TableSize → Message → Type 0
 BringsRows size (Snap slot rows) = AreRowsOf size rows
 BringsRows size message = ⊤

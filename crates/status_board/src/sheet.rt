@@ -74,7 +74,7 @@ fn put_rows(rows: &mut [JobRow], others: &[JobRow])
 }
 
 impl Sheet {
-    /// A fresh row for each job, before the log.
+    /// The fresh rows of a table, each job's and its own, before the log.
     pub fn first(alloc: Global, past: &Past, size: TableSize) -> Result<Sheet, OutOfMemory>
         ensures board { IfOk result (λ sheet. sheet.board ≡ past.now.book) }
         ensures states { IfOk result (λ sheet. sheet.states ≡ past.now.log) }

@@ -5,6 +5,6 @@ use paxos_base::JobRow;
 pub struct Shown {
     /// How many entries of the log are in the rows.
     pub prefix: u64,
-    /// A row for each job, in the order of their numbers.
+    /// A row for each job, in the order of their numbers, and then the table's own.
     pub rows: [JobRow; 0],
 }

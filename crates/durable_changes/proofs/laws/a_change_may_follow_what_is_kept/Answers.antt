@@ -1,4 +1,3 @@
-use Rattle.std.proofs.Common.{length}
 use Rattle.launch_machine.specs.Clerk.{table_size}
 use Rattle.step_spec.specs.Step.{step}
 use Rattle.durable_changes.proofs.Changes.{changes_follow}

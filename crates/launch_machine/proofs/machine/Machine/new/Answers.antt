@@ -1,4 +1,4 @@
-use Rattle.std.proofs.Common.{List, length, ap, subst, ◌∙◌, arith}
+use Rattle.std.proofs.Common.{List, length, ap, subst, ◌∙◌}
 use Rattle.std.proofs.lemmas.List.FromFn.{length-map-range_with_len}
 use Rattle.paxos_base.specs.declared.rows.JobRow.{JobRow}
 use Rattle.paxos_base.specs.Rows.{fresh_row, fresh_rows, row_count}

@@ -1,4 +1,4 @@
-use Rattle.std.proofs.Common.{◌≡◌, List, [], ◌∷◌, ◌++◌, length, get_or, refl, ap, subst, rules, arith, length-append, ◌∙◌}
+use Rattle.std.proofs.Common.{◌≡◌, List, [], ◌∷◌, ◌++◌, length, get_or, refl, ap, subst, arith, length-append, ◌∙◌}
 use Rattle.std.specs.Prelude.{All}
 use Rattle.status_board.specs.Sight.{Sight}
 use Rattle.status_board.specs.Writing.{AreReadersOf, sight_of}
