@@ -3,7 +3,7 @@
 //! reopened with the change of a campaign, a promise, a vote and a base exactly if the image that is left has it,
 //! and its disk keeps what was worked out by hand; so with bases that have a row, and after none, one and two of
 //! them. A disk whose area begins with such a base, and has a record whose gate was stopped, is attached again,
-//! armed too.
+//! armed too; and so is one whose area is of format 1.
 #![tactic(auto)]
 
 #[cfg(test)]
@@ -14,6 +14,8 @@ mod arms;
 mod builders;
 #[cfg(test)]
 mod campaign;
+#[cfg(test)]
+mod format1;
 #[cfg(test)]
 mod long;
 #[cfg(test)]

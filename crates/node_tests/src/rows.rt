@@ -12,8 +12,8 @@ use std::alloc::Global;
 use std::process::Abort;
 use std::test::*;
 
-// The hour with a job that runs at no time.
-fn table_of_one(alloc: Global) -> Result<JobTable, Fail> {
+/// The hour with a job that runs at no time.
+pub fn table_of_one(alloc: Global) -> Result<JobTable, Fail> {
     let mut jobs = Vec::new(alloc);
     jobs.push(JobSpec::new(alloc, "alice:1", 0, JobKind::Never)?)?;
     Ok(JobTable::in_utc(alloc, HOUR, 10, jobs)?)
@@ -38,8 +38,8 @@ fn snapshot(slot: u8) -> [u8; 168] {
     bytes
 }
 
-// The size of a table of one job.
-const ONE_JOB: TableSize = TableSize {
+/// The size of a table of one job.
+pub const ONE_JOB: TableSize = TableSize {
     jobs: 1,
     last_version: 0,
 };
@@ -296,8 +296,8 @@ fn disk_for(
     }
 }
 
-// Arms a disk and attaches it, and says whether a node is recovered.
-fn attach_armed(
+/// Arms a disk and attaches it, and says whether a node is recovered.
+pub fn attach_armed(
     alloc: Global,
     table: &JobTable,
     mut disk: MemDisk,

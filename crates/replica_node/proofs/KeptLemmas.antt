@@ -1,5 +1,5 @@
 -- A node's disk stays clean through its calls, and the numbers of its arm say whether a change is kept.
-use Rattle.std.proofs.Common.{◌≡◌, ◌⊎◌, ℕ, ◌<◌, ◌≤◌, ◌%◌, ◌-◌, ◌/◌, Option, None, Some, List, Ok, Err, length, map, refl, sym, ◌∙◌, subst, inl, inr, arith}
+use Rattle.std.proofs.Common.{◌≡◌, ◌⊎◌, ℕ, false, ◌<◌, ◌≤◌, ◌%◌, ◌-◌, ◌/◌, Option, None, Some, List, Ok, Err, ◌++◌, length, map, refl, sym, ◌∙◌, subst, inl, inr, arith}
 use Rattle.std.specs.Prelude.{IsSome, IsSomeAnd}
 use Rattle.std.proofs.lemmas.Bool.{cases_order, eq-eqb, ne_eqb, cases_lt}
 use Rattle.std.proofs.lemmas.Nat.{mod_below}
@@ -25,14 +25,14 @@ use Rattle.store_format.specs.declared.body.Record.{Record}
 use Rattle.store_format.specs.declared.body.Record.TheVariants as Item
 use Rattle.replica_store.specs.Faults as stored
 use Rattle.replica_store.specs.Files.{other_area, selected, selected_by}
-use Rattle.replica_store.specs.Kept.{IsReady, Shows, StopsInSave}
-use Rattle.replica_store.specs.Made.{area_after, attach_calls, save_calls}
-use Rattle.replica_store.specs.Store.{IsStoreAtRest, area_of, size_of_store, records_of}
+use Rattle.replica_store.specs.Kept.{IsClean, IsReady, Shows, StopsInSave}
+use Rattle.replica_store.specs.Made.{AreAttachCalls, area_after, attach_calls, save_calls}
+use Rattle.replica_store.specs.Store.{IsInFormat2, IsStoreAtRest, area_of, size_of_store, records_of}
 use Rattle.replica_store.specs.declared.fault.StoreFault.{StoreFault}
 use Rattle.replica_store.specs.declared.fault.StoreFault.TheVariants as Store
 use Rattle.replica_store.specs.declared.store.Store.{Store as AStore}
 use Rattle.replica_store.proofs.BaseLemmas.{base_early, base_kept, base_lost}
-use Rattle.replica_store.proofs.CleanLemmas.{armed_clean, attached_clean, disarmed_clean, ready_clean, rests_ready}
+use Rattle.replica_store.proofs.CleanLemmas.{armed_clean, disarmed_clean, ready_clean, rests_ready}
 use Rattle.replica_store.proofs.KeptLemmas.{StandsIn, record_early, record_kept, record_lost}
 use Rattle.replica_node.specs.Faults.{of_disk_answer}
 use Rattle.replica_node.specs.Kept.{IsKeptByArm, IsAreaSynced, KeepsChange, LeavesByArm, calls_of_change}
@@ -56,6 +56,7 @@ module _ (size : TableSize) (area : FileNo) (kept : Durable) (own : Option ℕ) 
         lost = λ none. (lost none).stand;
         saved_area = λ keeps. (saved keeps).selects;
         lost_area = λ none. (lost none).selects;
+        format = λ selects. (lost (λ keeps. (saved keeps).format selects)).format selects;
       }
 
   record_by_arm : (change : Delta) (item : Record) → StopsInSave size area kept own change arm old new → delta_record change ≡ Some item → ((2 ≤ arm.left) × Shows (λ byte. byte ≡ 1) arm.image → ⊥) → StandsIn size area kept (image_left new)
@@ -97,41 +98,47 @@ module _ {D : Type 0} (view : DiskView D) (disk : D) (store : AStore) (kept : Du
   tells_saved after (Some old) None done clean area tells = absurd tells
   tells_saved after (Some old) (Some new) done clean area tells = subst (λ (file : FileNo). IsAreaSynced file new) (sym area) (saved_synced old new (done old refl) clean tells.all)
 
-  stops_in_save : (arm : Arm) (old new : Told) → old.done ≡ view.seen disk → IsAreaSynced (area_of store) old → old.arm ≡ Some arm → StandFor (size_of_store store) (records_of store) kept own → ChangeMayFollow (size_of_store store) kept change
+  stops_in_save : IsInFormat2 store → (arm : Arm) (old new : Told) → old.done ≡ view.seen disk → IsAreaSynced (area_of store) old → old.arm ≡ Some arm → StandFor (size_of_store store) (records_of store) kept own → ChangeMayFollow (size_of_store store) kept change
       → MadeCalls {T = Unit} stored.of_disk calls (Err Store.Stopped) old new → StopsInSave (size_of_store store) (area_of store) kept own change arm old new
-  stops_in_save arm old new done synced armed stand follows made =
+  stops_in_save format arm old new done synced armed stand follows made =
       record {
         records = records_of store;
         ready = ready old done synced;
         stand = stand;
+        format = format;
         follows = follows;
         armed = armed;
         stops = made.broken Disk.Stopped refl;
       }
 
-  pub tells_by_arm : (arm : Arm) (old new : Option Told) → ((now : Told) → old ≡ Some now → now.done ≡ view.seen disk) → IsSomeAnd old (IsAreaSynced (area_of store)) → IsSomeAnd old (λ now. now.arm ≡ Some arm)
+  pub tells_by_arm : IsInFormat2 store → (arm : Arm) (old new : Option Told) → ((now : Told) → old ≡ Some now → now.done ≡ view.seen disk) → IsSomeAnd old (IsAreaSynced (area_of store)) → IsSomeAnd old (λ now. now.arm ≡ Some arm)
       → StandFor (size_of_store store) (records_of store) kept own → ChangeMayFollow (size_of_store store) kept change → (fault : StoreFault) → fault ≡ Store.Stopped → TellsThen (MadeCalls {T = Unit} stored.of_disk calls (Err fault)) old new
       → ((item : Record) → delta_record change ≡ Some item → IsRecord (record_bytes item) item)
       → ((slot : ℕ) (rows : List JobRow) → change ≡ Base slot rows → AreRecords (map record_bytes (base_records kept own slot rows)) (base_records kept own slot rows))
       → LeavesByArm (size_of_store store) (area_of store) kept change arm new
-  tells_by_arm arm None new done clean armed stand follows fault is tells spelled base = absurd clean
-  tells_by_arm arm (Some old) None done clean armed stand follows fault is tells spelled base = absurd tells
-  tells_by_arm arm (Some old) (Some new) done clean armed stand follows fault is tells spelled base =
+  tells_by_arm format arm None new done clean armed stand follows fault is tells spelled base = absurd clean
+  tells_by_arm format arm (Some old) None done clean armed stand follows fault is tells spelled base = absurd tells
+  tells_by_arm format arm (Some old) (Some new) done clean armed stand follows fault is tells spelled base =
       let made : MadeCalls {T = Unit} stored.of_disk calls (Err Store.Stopped) old new = subst (λ (f : StoreFault). MadeCalls {T = Unit} stored.of_disk calls (Err f) old new) is tells in
-      kept_by_arm (size_of_store store) (area_of store) kept own arm old new change (stops_in_save arm old new (done old refl) clean armed stand follows made) spelled base
+      kept_by_arm (size_of_store store) (area_of store) kept own arm old new change (stops_in_save format arm old new (done old refl) clean armed stand follows made) spelled base
 
 -- ---- an attach
 
-attached_synced : (image : Image) (count : ℕ) (old new : Told) → AllDone (attach_calls image count) old new → IsAreaSynced (selected image) new
-attached_synced image count old new made =
-    let clean = attached_clean image count old new made in
-    record { runs = all_run (attach_calls image count) old new made.1.0 made; chooser = clean.0; area_clean = clean.1 }
+attach_runs : (size : TableSize) (image : Image) (records : List (List ℕ)) (list : List DiskCall) (old new : Told) → AreAttachCalls size image records list → AllDone list old new → new.stopped ≡ false
+attach_runs size image records list old new (inl same) made =
+    let done : AllDone (attach_calls image (length records)) old new = subst (λ (made_calls : List DiskCall). AllDone made_calls old new) same made in
+    all_run (attach_calls image (length records)) old new done.1.0 done
+attach_runs size image records list old new (inr saves) made =
+    let whole = attach_calls image (length records) ++ save_calls (selected image) (length records) saves.1.0 saves.1.1 (Base saves.1.0.base saves.1.0.rows) in
+    let done : AllDone whole old new = subst (λ (made_calls : List DiskCall). AllDone made_calls old new) saves.1.3 made in
+    all_run whole old new done.1.0 done
 
-pub tells_attached : {T : Type 0} (image : Image) (count : ℕ) (area : FileNo) (value : T) (old new : Option Told) → IsSome old → area ≡ selected image → TellsThen (MadeCalls stored.of_disk (attach_calls image count) (Ok value)) old new
-    → IsSomeAnd new (IsAreaSynced area)
-tells_attached image count area value None new some is tells = absurd (cc some)
-tells_attached image count area value (Some old) None some is tells = absurd tells
-tells_attached image count area value (Some old) (Some new) some is tells = subst (λ (file : FileNo). IsAreaSynced file new) (sym is) (attached_synced image count old new tells.all)
+pub tells_attached : {T : Type 0} (size : TableSize) (image : Image) (records : List (List ℕ)) (list : List DiskCall) (area : FileNo) (value : T) (old new : Option Told) → IsSome old → AreAttachCalls size image records list
+    → TellsThen (MadeCalls stored.of_disk list (Ok value)) old new → TellsThen (λ one two. IsClean Chooser two × IsClean area two) old new → IsSomeAnd new (IsAreaSynced area)
+tells_attached size image records list area value None new some are tells clean = absurd (cc some)
+tells_attached size image records list area value (Some old) None some are tells clean = absurd tells
+tells_attached size image records list area value (Some old) (Some new) some are tells clean =
+    record { runs = attach_runs size image records list old new are tells.all; chooser = clean.0; area_clean = clean.1 }
 
 -- ---- an arm, and its end
 

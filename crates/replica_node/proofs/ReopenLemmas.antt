@@ -19,7 +19,7 @@ use Rattle.store_format.proofs.SoundLemmas.{StandFor-sound}
 use Rattle.replica_core.specs.Commit.{kept_after}
 use Rattle.replica_core.specs.Replica.{ReplicaState}
 use Rattle.replica_core.specs.declared.replica.Planned.{Planned}
-use Rattle.replica_store.specs.Files.{FilesStand, IsRecoverable, selected}
+use Rattle.replica_store.specs.Files.{FilesStand, IsRecoverable, SelectsFormat1, selected}
 use Rattle.replica_store.specs.Made.{area_after}
 use Rattle.replica_store.specs.Store.{IsStoreAtRest, StoreKeeps, size_of_store}
 use Rattle.replica_store.specs.declared.store.Store.{Store}
@@ -126,7 +126,8 @@ module _ (size : TableSize) (area : FileNo) (kept : Durable) (arm : Arm) (image 
       subst (λ (a : Option Delta). selected image ≡ area_for a area) (sym none) (left.lost_area (λ keeps. absurd (none-some change (sym none ∙ answered.saved keeps))))
 
 pub tells_area : (size : TableSize) (area : FileNo) (kept : Durable) (change : Delta) (arm : Arm) (answer : Option Delta) (told : Option Told) (seen : FileNo) → ChangeMayFollow size kept change → LeavesByArm size area kept change arm told
-    → IsAnsweredByArm area kept change arm answer → (answer ≡ Some change) ⊎ (answer ≡ None) → ((one : Told) → told ≡ Some one → seen ≡ selected (image_left one)) → seen ≡ area_for answer area
+    → IsAnsweredByArm area kept change arm answer → (answer ≡ Some change) ⊎ (answer ≡ None)
+    → ((one : Told) → told ≡ Some one → (SelectsFormat1 size (image_left one) → ⊥) → seen ≡ selected (image_left one)) → seen ≡ area_for answer area
 tells_area size area kept change arm answer None seen follows left answered either is = absurd left
 tells_area size area kept change arm answer (Some told) seen follows left answered either is =
-    is told refl ∙ image_area size area kept arm (image_left told) change answer follows left answered either
+    is told refl left.format ∙ image_area size area kept arm (image_left told) change answer follows left answered either

@@ -1,11 +1,13 @@
 -- A node between two calls, and what a stop leaves within one.
-use Rattle.std.proofs.Common.{◌≡◌, ℕ, ◌<◌, ◌≤◌, Option, refl, sym, ap, ◌∙◌, subst, inl, inr, arith}
+use Rattle.std.proofs.Common.{◌≡◌, ℕ, ◌<◌, ◌≤◌, List, [], Option, refl, sym, ap, ◌∙◌, subst, inl, inr, arith}
 use Rattle.std.specs.Option.{option_to_list}
 use Rattle.launch_machine.specs.Clerk.{table_size}
 use Rattle.paxos_base.specs.declared.rows.TableSize.{TableSize}
-use Rattle.disk_model.specs.Images.{Image}
+use Rattle.disk_model.specs.Images.{Image, file_of}
+use Rattle.disk_model.specs.declared.fault.FileNo.{FileNo}
 use Rattle.disk_model.specs.View.{DiskView, LeavesOnly}
 use Rattle.due_set.specs.Table.{Table}
+use Rattle.gate_file.specs.Gates.{HasBodies}
 use Rattle.launch_machine.specs.Machine.{Launches, StandsFor}
 use Rattle.paxos_base.specs.declared.durable.Delta.{Delta}
 use Rattle.paxos_base.specs.declared.durable.Durable.{Durable}
@@ -21,9 +23,10 @@ use Rattle.replica_core.specs.declared.input.Input.{Input}
 use Rattle.replica_core.proofs.OutcomeLemmas.{one_event}
 use Rattle.replica_core.specs.declared.out.StepOut.{StepOut}
 use Rattle.replica_core.specs.declared.replica.Planned.{Planned}
-use Rattle.replica_store.specs.Files.{FilesStand, FilesStandForEither, IsRecoverable}
-use Rattle.replica_store.specs.Store.{IsStoreAtRest, StoreKeeps, size_of_store}
+use Rattle.replica_store.specs.Files.{FilesStand, FilesStandForEither, IsRecoverable, SelectsFormat1, selected}
+use Rattle.replica_store.specs.Store.{IsInFormat2, IsStoreAtRest, StoreKeeps, size_of_store}
 use Rattle.replica_store.proofs.FileLemmas.{recoverable_stands}
+use Rattle.replica_store.proofs.MigrateLemmas.{not_selected, rests_in_format_2}
 use Rattle.replica_store.proofs.SaveLemmas.{rests_recoverable}
 use Rattle.replica_node.specs.Node.{FilesStandAround, IsNodeAtRest, IsRecoverableAround, LeadsTo, disk_of, replica_of, runs_in, store_of}
 use Rattle.replica_node.specs.declared.node.Node.{Node}
@@ -48,6 +51,17 @@ stands_at_rest view table node rest is image left =
     let kept = (replica_of node).state.kept in
     elim (recoverable_stands (table_size table) kept kept (view.may_leave (disk_of node)) (recoverable_at_rest view table node rest is) image left) [ inl before ↦ before | inr after ↦ after ]
 
+-- the area that its disk selects begins with no base of format 1
+pub selects_format_2 : {D : Type 0} (view : DiskView D) (table : Table) (node : Node D) → IsNodeAtRest view table node → SelectsFormat1 (table_size table) (view.seen (disk_of node)) → ⊥
+selects_format_2 view table node rest selects =
+    rests_in_format_2 view (disk_of node) (store_of node) rest.rests rest.format (subst (λ (size : TableSize). SelectsFormat1 size (view.seen (disk_of node))) (sym rest.size) selects)
+
+-- nor does that of empty files
+pub empty_in_format_2 : (size : TableSize) (image : Image) → ((file : FileNo) → file_of file image ≡ []) → SelectsFormat1 size image → ⊥
+empty_in_format_2 size image empty =
+    let none : HasBodies [] [] = record { gates_open = λ number below. absurd (omega (arith, below)); tail = λ first. omega (arith, first.within) } in
+    not_selected size image [] (subst (λ (bytes : List ℕ). HasBodies bytes []) (sym (empty (selected image))) none) (λ begins. begins)
+
 pub of_table_alike : (table : Table) (old now : ReplicaState) → IsSameReplica now old → IsOfTable table old → IsOfTable table now
 of_table_alike table old now alike of_table =
     record {
@@ -57,9 +71,9 @@ of_table_alike table old now alike of_table =
 
 -- a node whose replica is alike, and whose store keeps the same, is at rest as it was
 pub at_rest_still : {D : Type 0} (view : DiskView D) (table : Table) (old new : Node D) → IsNodeAtRest view table old → IsSameReplica (replica_of new) (replica_of old)
-    → runs_in new ≡ runs_in old → size_of_store (store_of new) ≡ size_of_store (store_of old) → IsStoreAtRest view (disk_of new) (store_of new) → StoreKeeps (store_of new) (replica_of new).state.kept
-    → IsNodeAtRest view table new
-at_rest_still view table old new rest alike runs size rests keeps =
+    → runs_in new ≡ runs_in old → size_of_store (store_of new) ≡ size_of_store (store_of old) → IsInFormat2 (store_of new) → IsStoreAtRest view (disk_of new) (store_of new)
+    → StoreKeeps (store_of new) (replica_of new).state.kept → IsNodeAtRest view table new
+at_rest_still view table old new rest alike runs size format rests keeps =
     record {
       runs = runs ∙ rest.runs;
       member = rw alike.identity rest.member;
@@ -68,6 +82,7 @@ at_rest_still view table old new rest alike runs size rests keeps =
       coherent = rw (alike.identity, alike.state) rest.coherent;
       rests = rests;
       size = size ∙ rest.size;
+      format = format;
       keeps = keeps;
     }
 
@@ -81,8 +96,8 @@ step_coherent table input old new event few coherent of_table is identity state 
 pub at_rest_after : {D : Type 0} (view : DiskView D) (table : Table) (input : Input) (old new : Node D) (now : ReplicaState) (planned : Planned) (delta : Option Delta) (out : StepOut)
     → IsNodeAtRest view table old → IsSameReplica now (replica_of old) → (plans : PlansStep table input (replica_of old) planned) → Takes table now (replica_of new) (step (replica_of old).identity plans.event (replica_of old).state) out
     → deltas_of (step (replica_of old).identity plans.event (replica_of old).state) ≡ option_to_list delta → runs_in new ≡ runs_in old → size_of_store (store_of new) ≡ size_of_store (store_of old)
-    → IsStoreAtRest view (disk_of new) (store_of new) → StoreKeeps (store_of new) (kept_after delta now.state.kept) → IsNodeAtRest view table new
-at_rest_after view table input old new now planned delta out rest alike plans takes told runs size rests keeps =
+    → IsInFormat2 (store_of new) → IsStoreAtRest view (disk_of new) (store_of new) → StoreKeeps (store_of new) (kept_after delta now.state.kept) → IsNodeAtRest view table new
+at_rest_after view table input old new now planned delta out rest alike plans takes told runs size format rests keeps =
     let acts = step (replica_of old).identity plans.event (replica_of old).state in
     let identity : (replica_of new).identity ≡ (replica_of old).identity = takes.identity ∙ alike.identity in
     let state : (replica_of new).state ≡ after_acts acts (replica_of old).state = takes.state ∙ ap (after_acts acts) alike.state in
@@ -95,6 +110,7 @@ at_rest_after view table input old new now planned delta out rest alike plans ta
       coherent = step_coherent table input (replica_of old) (replica_of new) plans.event (few_members (replica_of old).identity.me (replica_of old).identity.members rest.member rest.few) rest.coherent rest.of_table plans.event_is identity state;
       rests = rests;
       size = size ∙ rest.size;
+      format = format;
       keeps = subst (StoreKeeps (store_of new)) kept keeps;
     }
 

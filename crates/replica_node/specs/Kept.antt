@@ -13,7 +13,7 @@ use Rattle.paxos_base.specs.declared.durable.Delta.TheVariants.{Tried, Promised,
 use Rattle.paxos_base.specs.declared.durable.Durable.{Durable}
 use Rattle.save_calls.specs.Save as save
 use Rattle.save_calls.specs.Save.{calls_before}
-use Rattle.replica_store.specs.Files.{selected, selected_by, other_area, FilesStand}
+use Rattle.replica_store.specs.Files.{SelectsFormat1, selected, selected_by, other_area, FilesStand}
 use Rattle.replica_store.specs.Kept.{IsClean, Shows}
 use Rattle.replica_store.specs.Made.{area_after}
 use Rattle.replica_store.specs.Store.{area_of}
@@ -77,12 +77,13 @@ abbrev pub KeepsChange : FileNo → Delta → Arm → Type 0
 KeepsChange area change arm = (calls_before change ≤ arm.left) × Shows (IsByteAfter area change) arm.image
 
 -- An image stands for the state after a change where the disk keeps it, and selects the area after it, and else it stands for the
--- state before and selects the area of that.
+-- state before and selects the area of that; either is in format 2.
 pub record IsKeptByArm (size : TableSize) (area : FileNo) (kept : Durable) (change : Delta) (arm : Arm) (image : Image) : Type 0 where
   pub saved : KeepsChange area change arm → FilesStand size (after_delta change kept) image
   pub lost : (KeepsChange area change arm → ⊥) → FilesStand size kept image
   pub saved_area : KeepsChange area change arm → selected image ≡ area_after change area
   pub lost_area : (KeepsChange area change arm → ⊥) → selected image ≡ area
+  pub format : SelectsFormat1 size image → ⊥
 
 -- the image that a disk's stop leaves does so
 abbrev pub LeavesByArm : TableSize → FileNo → Durable → Delta → Arm → Option Told → Type 0

@@ -17,7 +17,7 @@ use Rattle.replica_core.specs.Step.{IsEventOf, IsOfTable}
 use Rattle.replica_core.specs.declared.input.Input.{Input}
 use Rattle.replica_store.specs.Files.{FilesStand, IsRecoverable}
 use Rattle.replica_store.specs.Made.{save_calls}
-use Rattle.replica_store.specs.Store.{area_of, size_of_store, records_of, StoreKeeps, IsStoreAtRest}
+use Rattle.replica_store.specs.Store.{area_of, size_of_store, records_of, IsInFormat2, StoreKeeps, IsStoreAtRest}
 use Rattle.replica_store.specs.declared.store.Store.{Store}
 use Rattle.replica_node.specs.declared.fault.NodeFault.{NodeFault}
 use Rattle.replica_node.specs.declared.node.Node.{Node}
@@ -49,7 +49,7 @@ fault_of (Ok node) = Ok node
 fault_of (Err refused) = Err refused.1
 
 -- What holds of a node that runs, between two of its calls. Its replica is one of at most seven and of this table of jobs, and is
--- coherent. Its store is at rest on its disk, is one of that table, and keeps what the replica keeps.
+-- coherent. Its store is at rest on its disk, is one of that table and in format 2, and keeps what the replica keeps.
 pub record IsNodeAtRest {D : Type 0} (view : DiskView D) (table : Table) (node : Node D) : Type 0 where
   pub runs : runs_in node ≡ true
   pub member : (replica_of node).identity.me < (replica_of node).identity.members
@@ -58,6 +58,7 @@ pub record IsNodeAtRest {D : Type 0} (view : DiskView D) (table : Table) (node :
   pub coherent : IsCoherent (replica_of node).identity (replica_of node).state
   pub rests : IsStoreAtRest view (disk_of node) (store_of node)
   pub size : size_of_store (store_of node) ≡ table_size table
+  pub format : IsInFormat2 (store_of node)
   pub keeps : StoreKeeps (store_of node) (replica_of node).state.kept
 
 -- the replica's step at an input leads to this state

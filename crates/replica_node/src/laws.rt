@@ -13,7 +13,7 @@ ghost use Rattle.step_spec.specs.State.{State};
 ghost use Rattle.replica_core.specs.Replica.{ReplicaState};
 ghost use Rattle.replica_core.specs.declared.input.Input.{Input};
 ghost use Rattle.save_calls.specs.Save.{bases_after, is_kept};
-ghost use Rattle.replica_store.specs.Files.{selected, FilesStand, IsRecoverable};
+ghost use Rattle.replica_store.specs.Files.{SelectsFormat1, selected, FilesStand, IsRecoverable};
 ghost use Rattle.replica_store.specs.Kept.{Shows};
 ghost use Rattle.replica_store.specs.Made.{area_after};
 ghost use Rattle.replica_node.specs.Kept.{area_by, KeepsChange};
@@ -24,12 +24,14 @@ ghost use Rattle.replica_node.specs.Node.{disk_of, replica_of, IsNodeAtRest, Lea
 use disk_model::Disk;
 
 /// Whatever a stop leaves of a node between two of its calls stands for what its replica keeps, and a replica can go on from
-/// there with that.
+/// there with that. The area that its disk selects begins with no base of format 1.
 pub fn a_node_at_rest_is_recoverable<D: Disk>()
     ensures stands { (table : Table) (node : Node D) (image : Image) → IsNodeAtRest D.view table node
         → D.view.honest (disk_of node) → D.view.may_leave (disk_of node) image → FilesStand (table_size table) (replica_of node).state.kept image }
     ensures recoverable { (table : Table) (node : Node D) → IsNodeAtRest D.view table node → D.view.honest (disk_of node)
         → IsRecoverable (table_size table) (replica_of node).state.kept (replica_of node).state.kept (D.view.may_leave (disk_of node)) }
+    ensures format { (table : Table) (node : Node D) → IsNodeAtRest D.view table node
+        → SelectsFormat1 (table_size table) (D.view.seen (disk_of node)) → ⊥ }
 {}
 
 /// A disk is reliable exactly where it is unfailing and not armed.

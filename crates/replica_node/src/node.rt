@@ -20,8 +20,8 @@ ghost use Rattle.store_format.specs.Order.{ChangeMayFollow};
 ghost use Rattle.replica_core.specs.Commit.{kept_after};
 ghost use Rattle.replica_core.specs.Replica.{IsSmall};
 ghost use Rattle.replica_core.specs.Step.{IsSameReplica, IsInputInside, Steps, fault_in};
-ghost use Rattle.replica_store.specs.Files.{selected, FilesStand, FilesStandForEither, IsRecoverable};
-ghost use Rattle.replica_store.specs.Store.{area_of, size_of_store, StoreKeeps, IsStoreAtRest};
+ghost use Rattle.replica_store.specs.Files.{selected, FilesStand, FilesStandForEither, IsRecoverable, SelectsFormat1};
+ghost use Rattle.replica_store.specs.Store.{area_of, size_of_store, IsInFormat2, StoreKeeps, IsStoreAtRest};
 ghost use Rattle.replica_node.specs.declared.fault.NodeFault.TheVariants.{Stopped, OutOfMemory, Damaged, Letter};
 ghost use Rattle.replica_node.specs.Faults.{of_disk_answer, EndsRun, HasNodeAnswer, IsStepRefused, letter_told};
 ghost use Rattle.replica_node.specs.Reliable.{CantFail, IsReliable, IsUnfailing, IsUnfailingAfter};
@@ -93,8 +93,9 @@ impl<D: Disk> Node<D> {
         ensures identity { IfOk result (λ node. (replica_of node).identity ≡ record { me = me; members = members }) }
         ensures started { IfOk result (λ node. (replica_of node).state ≡ started me (replica_of node).state.kept) }
         ensures stand { IfOk result (λ node. FilesStand (table_size table.now) (replica_of node).state.kept (D.view.seen disk)) }
-        // Its store goes on in the area that the chooser selects.
-        ensures area { IfOk result (λ node. area_of (store_of node) ≡ selected (D.view.seen disk)) }
+        // Its store goes on in the area that the chooser selects, where this begins with no base of format 1.
+        ensures area { (SelectsFormat1 (table_size table.now) (D.view.seen disk) → ⊥)
+            → IfOk result (λ node. area_of (store_of node) ≡ selected (D.view.seen disk)) }
         ensures clean { IsSome (D.view.told disk) → IfOk result (IsNodeClean D.view) }
         // From a disk that is reliable, want of memory and files at fault are the only faults, and the node's disk is so.
         ensures reliable { IsReliable (D.view.told disk) → IfOk result (λ node. IsReliable (D.view.told (disk_of node))) }
@@ -211,11 +212,13 @@ impl<D: Disk> Node<D> {
     fn keep(&mut self, delta: Option<&Delta>) -> Result<(), NodeFault>
         requires rests { IsStoreAtRest D.view (disk_of self.old) (store_of self.old) }
         requires keeps { StoreKeeps (store_of self.old) (replica_of self.old).state.kept }
+        requires format { IsInFormat2 (store_of self.old) }
         requires follows { (change : Delta) → option_copied delta ≡ Some change
             → ChangeMayFollow (size_of_store (store_of self.old)) (replica_of self.old).state.kept change }
         ensures replica { replica_of self.new ≡ replica_of self.old }
         ensures changed { IsErrOf result Stopped → IsSome (option_copied delta.entry) }
         ensures size { size_of_store (store_of self.new) ≡ size_of_store (store_of self.old) }
+        ensures format { IsInFormat2 (store_of self.new) }
         ensures runs { OnOk result (runs_in self.new ≡ runs_in self.old) }
         ensures rests { OnOk result (IsStoreAtRest D.view (disk_of self.new) (store_of self.new)) }
         ensures keeps { OnOk result (StoreKeeps (store_of self.new) (kept_after (option_copied delta.entry) (replica_of self.old).state.kept)) }
@@ -347,8 +350,10 @@ impl<D: ArmedDisk> Node<D> {
         ensures lost_by_arm { (stop : IsStopped D.view table.now self) (area : FileNo) (arm : Arm) → D.view.honest (disk_of self)
             → LeavesByArm (table_size table.now) area (replica_of self).state.kept stop.change arm (D.view.told (disk_of self))
             → ProposesAnew (replica_of self).state → (KeepsChange area stop.change arm → ⊥) → IfOk result (λ found. found.1 ≡ None) }
-        // The area in use is that of the image that the stop left; by the numbers of the arm, it is the one after the answer.
+        // The area in use is that of the image that the stop left, where this begins with no base of format 1; by the numbers of
+        // the arm, it is the one after the answer.
         ensures area { (told : Told) → D.view.told (disk_of self) ≡ Some told
+            → (SelectsFormat1 (table_size table.now) (image_left told) → ⊥)
             → IfOk result (λ found. selected (D.view.seen (disk_of found.0)) ≡ selected (image_left told)) }
         ensures area_by_arm { (stop : IsStopped D.view table.now self) (area : FileNo) (arm : Arm) → D.view.honest (disk_of self)
             → LeavesByArm (table_size table.now) area (replica_of self).state.kept stop.change arm (D.view.told (disk_of self))

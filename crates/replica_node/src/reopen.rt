@@ -12,8 +12,8 @@ ghost use Rattle.paxos_letter.specs.declared.fault.LetterFault.{LetterFault};
 ghost use Rattle.store_format.specs.Area.{IsFirstRecordAtFault};
 ghost use Rattle.replica_core.specs.Replica.{IsSmall, ReplicaState};
 ghost use Rattle.replica_core.specs.Step.{CanTake, IsOfTable};
-ghost use Rattle.replica_store.specs.Files.{selected, FilesStand, IsRecoverable};
-ghost use Rattle.replica_store.specs.Store.{area_of, size_of_store, StoreKeeps, IsStoreAtRest};
+ghost use Rattle.replica_store.specs.Files.{SelectsFormat1, selected, FilesStand, IsRecoverable};
+ghost use Rattle.replica_store.specs.Store.{area_of, size_of_store, IsInFormat2, StoreKeeps, IsStoreAtRest};
 ghost use Rattle.replica_node.specs.Change.{ShowsChange, IsDecided};
 ghost use Rattle.replica_node.specs.Faults.{EndsRun, HasNodeAnswer};
 ghost use Rattle.replica_node.specs.Kept.{IsAreaSynced};
@@ -41,7 +41,9 @@ pub fn attach_stopped<D: ArmedDisk>(
     ensures size { IfOk result (λ found. size_of_store found.0 ≡ size) }
     ensures keeps { IfOk result (λ found. StoreKeeps found.0 found.1) }
     ensures image { (told : Told) → D.view.told disk.old ≡ Some told → IfOk result (λ found. FilesStand size found.1 (image_left told)) }
-    ensures area { (told : Told) → D.view.told disk.old ≡ Some told → IfOk result (λ found. area_of found.0 ≡ selected (image_left told)) }
+    ensures format { IfOk result (λ found. IsInFormat2 found.0) }
+    ensures area { (told : Told) → D.view.told disk.old ≡ Some told → (SelectsFormat1 size (image_left told) → ⊥)
+        → IfOk result (λ found. area_of found.0 ≡ selected (image_left told)) }
     ensures clean { IfOk result (λ found. IsSomeAnd (D.view.told disk.new) (IsAreaSynced (area_of found.0))) }
     ensures either { (before after : Durable) → D.view.honest disk.old → IsRecoverable size before after (D.view.may_leave disk.old)
         → IfOk result (λ found. (found.1 ≡ before) ⊎ (found.1 ≡ after)) }

@@ -9,8 +9,8 @@ ghost use Rattle.paxos_letter.specs.declared.fault.LetterFault.{LetterFault};
 ghost use Rattle.step_spec.specs.State.{started};
 ghost use Rattle.store_format.specs.Area.{IsFirstRecordAtFault};
 ghost use Rattle.replica_core.specs.Step.{IsOfTable};
-ghost use Rattle.replica_store.specs.Files.{selected, FilesStand, FilesStandForEither, IsRecoverable};
-ghost use Rattle.replica_store.specs.Store.{area_of, size_of_store, StoreKeeps, IsStoreAtRest};
+ghost use Rattle.replica_store.specs.Files.{SelectsFormat1, selected, FilesStand, FilesStandForEither, IsRecoverable};
+ghost use Rattle.replica_store.specs.Store.{area_of, size_of_store, IsInFormat2, StoreKeeps, IsStoreAtRest};
 ghost use Rattle.replica_node.specs.declared.fault.NodeFault.TheVariants.{Damaged, Letter};
 ghost use Rattle.replica_node.specs.Faults.{EndsRun, HasNodeAnswer};
 ghost use Rattle.replica_node.specs.Reliable.{IsReliable, IsUnfailing, IsUnfailingAfter};
@@ -41,7 +41,9 @@ pub fn start<D: Disk>(
     ensures started { IfOk result (λ found. found.1.state ≡ started me found.1.state.kept) }
     ensures of_table { IfOk result (λ found. IsOfTable table.now found.1) }
     ensures stand { IfOk result (λ found. FilesStand (table_size table.now) found.1.state.kept (D.view.seen disk.old)) }
-    ensures area { IfOk result (λ found. area_of found.0 ≡ selected (D.view.seen disk.old)) }
+    ensures format { IfOk result (λ found. IsInFormat2 found.0) }
+    ensures area { (SelectsFormat1 (table_size table.now) (D.view.seen disk.old) → ⊥)
+        → IfOk result (λ found. area_of found.0 ≡ selected (D.view.seen disk.old)) }
     ensures clean { IsSome (D.view.told disk.old) → IfOk result (λ found. IsSomeAnd (D.view.told disk.new) (IsAreaSynced (area_of found.0))) }
     ensures reliable { IsReliable (D.view.told disk.old) → OnOk result (IsReliable (D.view.told disk.new)) }
     ensures unended { IsReliable (D.view.told disk.old) → EndsRun result → ⊥ }

@@ -21,6 +21,7 @@ use Rattle.store_format.specs.declared.body.Record.{Record}
 use Rattle.store_format.specs.Area.{base_records}
 use Rattle.store_format.specs.Records.{AreRecords, record_bytes}
 use Rattle.store_format.proofs.BaseLemmas.{base_stand_for}
+use Rattle.store_format.proofs.FormatLemmas.{base_in_format_2}
 use Rattle.store_format.proofs.SoundLemmas.{StandFor-sound}
 use Rattle.replica_store.specs.Files.{selected, selected_by, bit_of, other_area}
 use Rattle.replica_store.specs.Kept.{IsClean, StopsInSave, Shows}
@@ -98,7 +99,7 @@ module _ (size : TableSize) (area : FileNo) (kept : Durable) (own : Option ℕ) 
   area_stays selects clean same =
       selects_in size kept (image_left new) area save.records selects
       (has_at_rest (file_of area (image_left new)) save.records (subst (λ l. HasRestingGate l save.records) (sym (clean_left last new area armed clean ∙ same)) save.ready.at_rest))
-      (own, save.stand)
+      (own, save.stand) save.format
 
   both_stay : IsClean Chooser new → file_of Chooser new.done ≡ file_of Chooser old.done → IsClean area new → file_of area new.done ≡ file_of area old.done → StandsIn size area kept (image_left new)
   both_stay chooser chooser_same clean same = area_stays (same_chooser (image_left new) old.done (clean_left last new Chooser armed chooser ∙ chooser_same) ∙ save.ready.selects) clean same
@@ -163,6 +164,7 @@ module _ (size : TableSize) (area : FileNo) (kept : Durable) (own : Option ℕ) 
           selects_in size (after_delta (Base slot rows) kept) (image_left new) other bodies (base_selects shows)
           (has_at_rest (file_of other (image_left new)) bodies (subst (λ l. HasRestingGate l bodies) (sym other_bytes) (gated_rest bodies (all_whole (base_records kept own slot rows)))))
           (own, base_stand_for size bodies kept own slot rows are (StandFor-sound size save.records kept own save.stand) save.follows.1)
+          (base_in_format_2 size bodies slot rows kept own save.follows.1 are)
 
   -- Within the first three calls, or within the last two.
   record StopsAtChooser : Type 0 where

@@ -79,6 +79,11 @@ saved_clean area count kept own (Base slot rows) old new differs clean done =
 pub ready_clean : (area : FileNo) (records : List (List ℕ)) (kept : Durable) (own : Option ℕ) (change : Delta) (old new : Told) → IsReady area records old → AllDone (save_calls area (length records) kept own change) old new → AreClean (area_after change area) new
 ready_clean area records kept own change old new ready done = saved_clean area (length records) kept own change old new (λ same. selects_area old.done (ready.selects ∙ same)) (ready.chooser, ready.area_clean) done
 
+-- after an attach that saves a base
+pub moved_clean : (image : Image) (count : ℕ) (kept : Durable) (own : Option ℕ) (change : Delta) (old mid new : Told) → AllDone (attach_calls image count) old mid → AllDone (save_calls (selected image) count kept own change) mid new
+    → AreClean (area_after change (selected image)) new
+moved_clean image count kept own change old mid new first second = saved_clean (selected image) count kept own change mid new (selects_area image) (attached_clean image count old mid first) second
+
 -- ---- between two calls
 
 pub rests_ready : {D : Type 0} (view : DiskView D) (disk : D) (store : Store) (told : Told) → IsStoreAtRest view disk store → told.done ≡ view.seen disk → told.stopped ≡ false

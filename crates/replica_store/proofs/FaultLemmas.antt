@@ -24,6 +24,13 @@ damaged_below fault gate result gives is =
 pub not_memory : (fault : ReadFault) (gate : ℕ) → fault ≡ Read.OutOfMemory → fault ≡ Read.Damaged gate → ⊥
 not_memory fault gate memory damaged = absurd (cc (memory, damaged))
 
+-- a fault that was handed on as it is
+pub same_fault : {T U : Type 0} (given : StoreFault) (below : Result T StoreFault) (result : Result U StoreFault) (fault : StoreFault) → below ≡ Err given → IsErrAnd result (λ e. e ≡ given) → result ≡ Err fault → below ≡ Err fault
+same_fault given below result fault was gives is =
+    let found = err_from_is_err_and result gives in
+    let same : given ≡ fault = cc (found.1, found.2, is) in
+    was ∙ ap Err same
+
 memory_of : (fault : DiskFault) → of_disk fault ≡ Store.OutOfMemory → fault ≡ Disk.OutOfMemory
 memory_of Disk.Stopped is = absurd (cc is)
 memory_of Disk.Failed is = absurd (cc is)

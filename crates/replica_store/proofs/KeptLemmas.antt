@@ -20,12 +20,14 @@ use Rattle.paxos_base.specs.Durable.{after_delta}
 use Rattle.store_format.specs.declared.body.Record.{Record}
 use Rattle.store_format.specs.Order.{delta_record}
 use Rattle.store_format.specs.Records.{IsRecord, record_bytes}
-use Rattle.replica_store.specs.Files.{selected, BodiesStand, FilesStand}
+use Rattle.store_format.specs.Area.{BeginsInFormat1}
+use Rattle.replica_store.specs.Files.{SelectsFormat1, selected, BodiesStand, FilesStand}
 use Rattle.replica_store.specs.Kept.{IsClean, StopsInSave, Shows}
 use Rattle.replica_store.proofs.FileLemmas.{same_chooser, selects_area}
 use Rattle.replica_store.proofs.MadeLemmas.{saves_record}
 use Rattle.replica_store.proofs.PendingLemmas.{IsPending, clean_left, pending_clean, pending_left, pending_same, pending_touched, torn_image}
-use Rattle.replica_store.proofs.SaveLemmas.{change_stands}
+use Rattle.replica_store.proofs.MigrateLemmas.{not_selected}
+use Rattle.replica_store.proofs.SaveLemmas.{change_in_format_2, change_stands}
 use Rattle.replica_store.proofs.StoppedLemmas.{StopsLater, hidden, none_breaks, shown, stops_in_write}
 
 pub record_long : (item : Record) → length (record_bytes item) ≡ 56
@@ -35,13 +37,19 @@ pub stands_in : (size : TableSize) (kept : Durable) (image : Image) (area : File
 stands_in size kept image area bodies selects has stand =
     record { bodies = bodies; has = subst (λ file. HasBodies (file_of file image) bodies) (sym selects) has; stand = stand }
 
--- the image selects the area, and the files stand for what is kept
+-- the image selects the area, which is in format 2, and the files stand for what is kept
 pub record StandsIn (size : TableSize) (area : FileNo) (kept : Durable) (image : Image) : Type 0 where
   pub selects : selected image ≡ area
   pub stand : FilesStand size kept image
+  pub format : SelectsFormat1 size image → ⊥
 
-pub selects_in : (size : TableSize) (kept : Durable) (image : Image) (area : FileNo) (bodies : List (List ℕ)) → selected image ≡ area → HasBodies (file_of area image) bodies → BodiesStand size bodies kept → StandsIn size area kept image
-selects_in size kept image area bodies selects has stand = record { selects = selects; stand = stands_in size kept image area bodies selects has stand }
+pub selects_in : (size : TableSize) (kept : Durable) (image : Image) (area : FileNo) (bodies : List (List ℕ)) → selected image ≡ area → HasBodies (file_of area image) bodies → BodiesStand size bodies kept → (BeginsInFormat1 size bodies → ⊥) → StandsIn size area kept image
+selects_in size kept image area bodies selects has stand none =
+    record {
+      selects = selects;
+      stand = stands_in size kept image area bodies selects has stand;
+      format = not_selected size image bodies (subst (λ file. HasBodies (file_of file image) bodies) (sym selects) has) none;
+    }
 
 -- a gate that a file has open
 pub closed_has : (file : List ℕ) (bodies : List (List ℕ)) → AreOpen file bodies → (get_or file (57 * length bodies) 0 ≡ 1 → ⊥) → HasBodies file bodies
@@ -116,7 +124,7 @@ module _ (size : TableSize) (area : FileNo) (kept : Durable) (own : Option ℕ) 
       selects_in size kept (image_left new) area save.records
       (selects (pending_clean area (gate + 1) piece old new pending Chooser (λ same. differs (sym same)) save.ready.chooser) (pending_same area (gate + 1) piece old new pending Chooser (λ same. differs (sym same))))
       (body_lost file piece (file_of area (image_left new)) save.records save.ready.at_rest (subst (Torn (gate + 1) (length piece) file) (sym bytes) torn))
-      (own, save.stand)
+      (own, save.stand) save.format
 
   pub record_early : arm.left < 2 → StandsIn size area kept (image_left new)
   record_early few = ⊎_elim (λ stopped. body_pending stopped.1) (λ (later : StopsLater area (gate + 1) piece (synced_write area gate (1 ∷ [])) arm old new). absurd (omega (arith, later.two, few))) first
@@ -155,7 +163,7 @@ module _ (size : TableSize) (area : FileNo) (kept : Durable) (own : Option ℕ) 
         let shut = hidden arm.image gate 1 now (new.touched area) long_enough (pending_touched area gate (1 ∷ []) later.mid new pending later.synced.clean) (λ byte. byte ≡ 1) (zero_not_1 (get_or now gate 0) closed_now) not_shown in
         selects_in size kept (image_left new) area save.records selects_now
         (subst (λ l. HasBodies l save.records) (sym bytes_now) (gate_lost now body _ save.records open_now behind_now torn_now shut))
-        (own, save.stand)
+        (own, save.stand) save.format
 
     gate_shown : IsRecord body item → Shows (λ byte. byte ≡ 1) arm.image → StandsIn size area (after_delta change kept) (image_left new)
     gate_shown record_is shows =
@@ -163,6 +171,7 @@ module _ (size : TableSize) (area : FileNo) (kept : Durable) (own : Option ℕ) 
         selects_in size (after_delta change kept) (image_left new) area (save.records ++ body ∷ []) selects_now
         (subst (λ l. HasBodies l (save.records ++ body ∷ [])) (sym bytes_now) (gate_kept now body _ save.records open_now behind_now torn_now open_byte))
         (change_stands size save.records body item kept change (own, save.stand) save.follows is (λ has. record_is))
+        (change_in_format_2 size save.records body item change is (λ has. record_is) save.format)
 
   gate_pending : (later : StopsLater area (gate + 1) piece (synced_write area gate (1 ∷ [])) arm old new) → IsPending area gate (1 ∷ []) later.mid new
   gate_pending later =

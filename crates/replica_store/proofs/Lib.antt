@@ -6,6 +6,7 @@ pub mod FileLemmas
 pub mod ImageLemmas
 pub mod KeptLemmas
 pub mod MadeLemmas
+pub mod MigrateLemmas
 pub mod PendingLemmas
 pub mod RowsLemmas
 pub mod SaveLemmas

@@ -11,11 +11,12 @@ use Rattle.paxos_base.specs.Rows.{RowsStand}
 use Rattle.paxos_base.proofs.RowLemmas.{RowsStand-fresh_rows}
 use Rattle.store_format.specs.declared.body.Record.{Record}
 use Rattle.store_format.specs.declared.body.Record.TheVariants.{Tried as TriedRecord, Promised as PromisedRecord, Voted as VotedRecord, Base as BaseRecord, Row as RowRecord}
-use Rattle.store_format.specs.Area.{Stands, StandFor, fresh_kept, after_copy}
+use Rattle.store_format.specs.Area.{Stands, StandFor, fresh_kept, after_copy, rows_of_group}
 use Rattle.store_format.specs.Order.{ChangeMayFollow, IsChangeLog, own_round}
 use Rattle.store_format.specs.Records.{AreRecords, tried_in}
 use Rattle.store_format.proofs.LogLemmas.{IsChangeLog-uncons, IsChangeLog-empty}
 use Rattle.store_format.proofs.SoundLemmas.{StandFor-sound}
+use Rattle.store_format.proofs.StandLemmas.{group_rows_stand}
 
 rows_change : (size : TableSize) (kept : Durable) (change : Delta) → RowsStand kept.rows size → ChangeMayFollow size kept change → RowsStand (after_delta change kept).rows size
 unfolding after_delta
@@ -32,7 +33,8 @@ rows_log size kept last (item ∷ items) log stand =
 
 pub rows_stand : (size : TableSize) (items : List Record) (kept : Durable) → Stands size items kept → RowsStand kept.rows size
 rows_stand size items kept (inl log) = rows_log size (fresh_kept size) kept items log (RowsStand-fresh_rows size)
-rows_stand size items kept (inr base) = rows_log size (after_copy base.slot base.rows base.copy base.promised) kept base.log base.is_log base.rows_stand
+rows_stand size items kept (inr base) =
+    rows_log size (after_copy base.slot (rows_of_group size base.rows) base.copy base.promised) kept base.log base.is_log (group_rows_stand size base.rows base.rows_stand)
 
 pub rows_found : (size : TableSize) (bodies : List (List ℕ)) (kept : Durable) (own : Option ℕ) → StandFor size bodies kept own → RowsStand kept.rows size
 rows_found size bodies kept own stand = rows_stand size stand.items kept stand.stands

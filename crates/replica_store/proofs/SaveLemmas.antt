@@ -17,7 +17,9 @@ use Rattle.paxos_base.specs.Durable.{after_delta}
 use Rattle.store_format.specs.declared.body.Record.{Record}
 use Rattle.store_format.specs.Order.{ChangeMayFollow, delta_record, own_after}
 use Rattle.store_format.specs.Records.{IsRecord, RowHasCursor}
+use Rattle.store_format.specs.Area.{BeginsInFormat1}
 use Rattle.store_format.proofs.ChangeLemmas.{StandFor-change}
+use Rattle.store_format.proofs.RecordLemmas.{IsRecord-same}
 use Rattle.replica_store.specs.declared.store.Store.{Store}
 use Rattle.replica_store.specs.Files.{selected, bit_of, other_area, BodiesStand, FilesStandForEither, IsRecoverable}
 use Rattle.replica_store.specs.Store.{StoreKeeps, IsStoreAtRest}
@@ -135,3 +137,18 @@ pub change_stands : (size : TableSize) (bodies : List (List ℕ)) (body : List �
     → BodiesStand size (bodies ++ body ∷ []) (after_delta change kept)
 change_stands size bodies body item kept change stand follows is record_of =
     (own_after change stand.0, StandFor-change size bodies body item kept stand.0 change stand.1 follows is (record_of (change_has_cursor change item is)))
+
+-- ---- the format
+
+not_base : (change : Delta) (item : Record) (slot count : ℕ) → delta_record change ≡ Some item → item ≡ Record.Base slot count → ⊥
+not_base (Tried ballot) item slot count is base = absurd (cc (is, base))
+not_base (Promised ballot) item slot count is base = absurd (cc (is, base))
+not_base (Voted vote) item slot count is base = absurd (cc (is, base))
+not_base (Base other rows) item slot count is base = absurd (cc is)
+
+-- with the record of a change behind them the bodies begin with no base of format 1 either
+pub change_in_format_2 : (size : TableSize) (bodies : List (List ℕ)) (body : List ℕ) (item : Record) (change : Delta) → delta_record change ≡ Some item → (RowHasCursor item → IsRecord body item) → (BeginsInFormat1 size bodies → ⊥)
+    → BeginsInFormat1 size (bodies ++ body ∷ []) → ⊥
+change_in_format_2 size [] body item change is record_of was begins =
+    not_base change item begins.0 size.jobs is (IsRecord-same body item (Record.Base begins.0 size.jobs) (record_of (change_has_cursor change item is)) begins.1)
+change_in_format_2 size (first ∷ bodies) body item change is record_of was begins = was begins

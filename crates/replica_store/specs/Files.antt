@@ -7,7 +7,7 @@ use Rattle.disk_model.specs.declared.fault.FileNo.TheVariants.{AreaA, AreaB}
 use Rattle.disk_model.specs.Images.{Image, file_of, AllHave}
 use Rattle.gate_file.specs.Gates.{HasBodies, IsStaged}
 use Rattle.paxos_base.specs.declared.durable.Durable.{Durable}
-use Rattle.store_format.specs.Area.{StandFor}
+use Rattle.store_format.specs.Area.{BeginsInFormat1, StandFor}
 
 -- the area that a byte selects: its low bit is 1 for the second
 abbrev pub selected_by : ℕ → FileNo
@@ -36,6 +36,10 @@ pub record FilesStand (size : TableSize) (kept : Durable) (image : Image) : Type
   pub bodies : List (List ℕ)
   pub has : HasBodies (file_of (selected image) image) bodies
   pub stand : BodiesStand size bodies kept
+
+-- the area that the chooser selects begins with a base of format 1
+abbrev pub SelectsFormat1 : TableSize → Image → Type 0
+SelectsFormat1 size image = (bodies : List (List ℕ)) × HasBodies (file_of (selected image) image) bodies × BeginsInFormat1 size bodies
 
 -- the files stand for one of two states
 abbrev pub FilesStandForEither : TableSize → Durable → Durable → Image → Type 0

@@ -11,7 +11,7 @@ use Rattle.disk_model.specs.Told.{Told}
 use Rattle.gate_file.specs.Gates.{HasRestingGate}
 use Rattle.paxos_base.specs.declared.durable.Delta.{Delta}
 use Rattle.paxos_base.specs.declared.durable.Durable.{Durable}
-use Rattle.store_format.specs.Area.{StandFor}
+use Rattle.store_format.specs.Area.{BeginsInFormat1, StandFor}
 use Rattle.store_format.specs.Order.{ChangeMayFollow}
 use Rattle.replica_store.specs.Files.{selected}
 use Rattle.replica_store.specs.Made.{save_calls}
@@ -31,11 +31,12 @@ pub record IsReady (area : FileNo) (records : List (List ℕ)) (told : Told) : T
   pub at_rest : HasRestingGate (file_of area told.done) records
 
 -- The disk was armed and stopped within the save of a change: a store kept this, with the replica's own ballot, in records of
--- the area, and some of the calls of the save were done, and a stop came within the next one.
+-- the area, which are in format 2, and some of the calls of the save were done, and a stop came within the next one.
 pub record StopsInSave (size : TableSize) (area : FileNo) (kept : Durable) (own : Option ℕ) (change : Delta) (arm : Arm) (old new : Told) : Type 0 where
   pub records : List (List ℕ)
   pub ready : IsReady area records old
   pub stand : StandFor size records kept own
+  pub format : BeginsInFormat1 size records → ⊥
   pub follows : ChangeMayFollow size kept change
   pub armed : old.arm ≡ Some arm
   pub stops : BreaksOff Stopped (save_calls area (length records) kept own change) old new

@@ -1,5 +1,6 @@
 -- Which calls of its disk each call of a store makes.
-use Rattle.std.specs.Prelude.{ℕ, Option, None, Some, List, [], ◌∷◌, ◌++◌, map}
+use Rattle.std.specs.Prelude.{◌≡◌, ◌⊎◌, ℕ, Option, None, Some, List, [], ◌∷◌, ◌++◌, length, map}
+use Rattle.paxos_base.specs.declared.rows.TableSize.{TableSize}
 use Rattle.disk_model.specs.declared.fault.FileNo.{FileNo}
 use Rattle.disk_model.specs.declared.fault.FileNo.TheVariants.{Chooser}
 use Rattle.disk_model.specs.Images.{Image, file_of}
@@ -9,7 +10,7 @@ use Rattle.paxos_base.specs.declared.durable.Delta.{Delta}
 use Rattle.paxos_base.specs.declared.durable.Delta.TheVariants.{Tried, Promised, Voted, Base}
 use Rattle.paxos_base.specs.declared.durable.Durable.{Durable}
 use Rattle.store_format.specs.declared.body.Record.{Record}
-use Rattle.store_format.specs.Area.{base_records}
+use Rattle.store_format.specs.Area.{BeginsInFormat1, StandFor, base_records}
 use Rattle.store_format.specs.Order.{delta_record}
 use Rattle.store_format.specs.Records.{record_bytes}
 use Rattle.replica_store.specs.Files.{selected, bit_of, other_area}
@@ -39,6 +40,14 @@ save_calls area count kept own (Promised ballot) = record_calls area count (delt
 save_calls area count kept own (Voted vote) = record_calls area count (delta_record (Voted vote))
 save_calls area count kept own (Base slot rows) =
     rewrite_calls (other_area area) (map record_bytes (base_records kept own slot rows)) ++ choose_calls (other_area area)
+
+-- An attach of an area with these records makes these calls: those above, and where the records begin with a base of format 1
+-- also those that save a base of what they stand for.
+abbrev pub AreAttachCalls : TableSize → Image → List (List ℕ) → List DiskCall → Type 0
+AreAttachCalls size image records calls =
+    (calls ≡ attach_calls image (length records))
+    ⊎ (BeginsInFormat1 size records × ((kept : Durable) × (own : Option ℕ) × StandFor size records kept own
+    × (calls ≡ attach_calls image (length records) ++ save_calls (selected image) (length records) kept own (Base kept.base kept.rows))))
 
 -- the area that has the records after a change
 abbrev pub area_after : Delta → FileNo → FileNo

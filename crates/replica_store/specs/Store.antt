@@ -7,6 +7,7 @@ use Rattle.disk_model.specs.View.{DiskView}
 use Rattle.gate_file.specs.File.{file_no, bodies_of, IsFileAtRest}
 use Rattle.paxos_base.specs.declared.durable.Durable.{Durable}
 use Rattle.paxos_base.specs.declared.rows.TableSize.{TableSize}
+use Rattle.store_format.specs.Area.{BeginsInFormat1}
 use Rattle.replica_store.specs.declared.store.Store.{Store}
 use Rattle.replica_store.specs.Files.{selected, BodiesStand}
 
@@ -25,6 +26,10 @@ records_of store = bodies_of store.gates
 -- what the store's records stand for is this
 abbrev pub StoreKeeps : Store → Durable → Type 0
 StoreKeeps store kept = BodiesStand store.size (bodies_of store.gates) kept
+
+-- its records begin with no base of format 1
+abbrev pub IsInFormat2 : Store → Type 0
+IsInFormat2 store = BeginsInFormat1 store.size (bodies_of store.gates) → ⊥
 
 -- The disk's files are as the last call of the store left them: the chooser selects the store's area, which is at rest with
 -- its records, whatever a stop does, and these stand for some state.

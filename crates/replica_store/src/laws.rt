@@ -17,7 +17,7 @@ ghost use Rattle.store_format.specs.Area.{fresh_kept, base_records};
 ghost use Rattle.store_format.specs.Order.{delta_record};
 ghost use Rattle.store_format.specs.Records.{AreRecords, IsRecord, record_bytes};
 ghost use Rattle.replica_store.specs.declared.store.Store.{Store};
-ghost use Rattle.replica_store.specs.Files.{selected, selected_by, other_area, BodiesStand, FilesStand, FilesStandForEither, IsRecoverable};
+ghost use Rattle.replica_store.specs.Files.{SelectsFormat1, selected, selected_by, other_area, BodiesStand, FilesStand, FilesStandForEither, IsRecoverable};
 ghost use Rattle.replica_store.specs.Kept.{IsClean, IsReady, StopsInSave, Shows};
 ghost use Rattle.replica_store.specs.Made.{attach_calls, save_calls, area_after};
 ghost use Rattle.replica_store.specs.Store.{size_of_store, area_of, records_of, StoreKeeps, IsStoreAtRest};
@@ -85,6 +85,16 @@ pub fn a_stop_may_keep_a_record()
         → 2 ≤ arm.left → Shows (λ byte. byte ≡ 1) arm.image → FilesStand size (after_delta change kept) (image_left new) }
     ensures area { (size : TableSize) (area : FileNo) (kept : Durable) (own : Option ℕ) (change : Delta) (item : Record) (arm : Arm) (old new : Told)
         → StopsInSave size area kept own change arm old new → delta_record change ≡ Some item → selected (image_left new) ≡ area }
+    // The area that the image selects begins with no base of format 1.
+    ensures early_format { (size : TableSize) (area : FileNo) (kept : Durable) (own : Option ℕ) (change : Delta) (item : Record) (arm : Arm) (old new : Told)
+        → StopsInSave size area kept own change arm old new → delta_record change ≡ Some item
+        → arm.left < 2 → SelectsFormat1 size (image_left new) → ⊥ }
+    ensures lost_format { (size : TableSize) (area : FileNo) (kept : Durable) (own : Option ℕ) (change : Delta) (item : Record) (arm : Arm) (old new : Told)
+        → StopsInSave size area kept own change arm old new → delta_record change ≡ Some item
+        → 2 ≤ arm.left → (Shows (λ byte. byte ≡ 1) arm.image → ⊥) → SelectsFormat1 size (image_left new) → ⊥ }
+    ensures saved_format { (size : TableSize) (area : FileNo) (kept : Durable) (own : Option ℕ) (change : Delta) (item : Record) (arm : Arm) (old new : Told)
+        → StopsInSave size area kept own change arm old new → delta_record change ≡ Some item → IsRecord (record_bytes item) item
+        → 2 ≤ arm.left → Shows (λ byte. byte ≡ 1) arm.image → SelectsFormat1 size (image_left new) → ⊥ }
 {}
 
 /// A law, with nothing to run: whether a base is kept, where an armed disk stops within its save. A stop within the first
@@ -111,6 +121,17 @@ pub fn a_stop_may_keep_a_base()
     ensures saved_area { (size : TableSize) (area : FileNo) (kept : Durable) (own : Option ℕ) (slot : ℕ) (rows : List JobRow) (arm : Arm) (old new : Told)
         → StopsInSave size area kept own (Base slot rows) arm old new
         → 3 ≤ arm.left → Shows (λ byte. selected_by byte ≡ other_area area) arm.image → selected (image_left new) ≡ other_area area }
+    // The area that the image selects begins with no base of format 1.
+    ensures early_format { (size : TableSize) (area : FileNo) (kept : Durable) (own : Option ℕ) (slot : ℕ) (rows : List JobRow) (arm : Arm) (old new : Told)
+        → StopsInSave size area kept own (Base slot rows) arm old new
+        → arm.left < 3 → SelectsFormat1 size (image_left new) → ⊥ }
+    ensures lost_format { (size : TableSize) (area : FileNo) (kept : Durable) (own : Option ℕ) (slot : ℕ) (rows : List JobRow) (arm : Arm) (old new : Told)
+        → StopsInSave size area kept own (Base slot rows) arm old new
+        → 3 ≤ arm.left → (Shows (λ byte. selected_by byte ≡ other_area area) arm.image → ⊥) → SelectsFormat1 size (image_left new) → ⊥ }
+    ensures saved_format { (size : TableSize) (area : FileNo) (kept : Durable) (own : Option ℕ) (slot : ℕ) (rows : List JobRow) (arm : Arm) (old new : Told)
+        → StopsInSave size area kept own (Base slot rows) arm old new
+        → AreRecords (map record_bytes (base_records kept own slot rows)) (base_records kept own slot rows)
+        → 3 ≤ arm.left → Shows (λ byte. selected_by byte ≡ other_area area) arm.image → SelectsFormat1 size (image_left new) → ⊥ }
 {}
 
 /// A law, with nothing to run: a disk that runs is ready for a save where the store is at rest, and the chooser and its area

@@ -5,7 +5,8 @@
 //! on a disk that was empty at first (`an_empty_disk_is_recoverable`) and that only these two calls wrote, or whose
 //! files are synced and closed (`synced_files_are_recoverable`); if files stand for no state it names the first gate
 //! at fault and writes nothing (`damaged`, `unwritten`). Files stand for one state at most
-//! (`files_stand_for_one_state`). On a disk that shows its calls, both say which they make (`attach_calls`,
+//! (`files_stand_for_one_state`). If the selected area begins with a base of format 1, `attach` saves what it stands for
+//! as a base (`migrated`, `moved`). On a disk that shows its calls, both say which they make (`AreAttachCalls`,
 //! `save_calls`), and how many were done at each answer (`told`). If such a disk was armed and stops within a save,
 //! the number of calls left and the number of the image say whether the change is kept, and which area is in use
 //! (`a_stop_may_keep_a_record`, `a_stop_may_keep_a_base`). Over a disk that isn't honest nothing is said of images.

@@ -15,11 +15,12 @@ use Rattle.paxos_base.specs.Vote.{SlotsRise, votes_from}
 use Rattle.paxos_base.proofs.PutLemmas.{all_from, SlotsRise-votes_from}
 use Rattle.paxos_base.specs.Ballot.{IsAbove}
 use Rattle.store_format.specs.declared.body.Record.{Record}
-use Rattle.store_format.specs.Area.{Stands, StandFor, group_of, Copy, copy_records, IsCopy, IsGreatest, after_copy, promise_above, base_records}
+use Rattle.store_format.specs.Area.{Stands, StandFor, group_of, Copy, copy_records, IsCopy, IsGreatest, after_copy, promise_above, base_records, rows_of_group}
 use Rattle.store_format.specs.Order.{IsKeptSound, IsWithinPromise, IsChangeLog, own_round}
 use Rattle.store_format.specs.Records.{AreRecords, own_ballot}
 use Rattle.store_format.proofs.LogLemmas.{IsChangeLog-nil}
 use Rattle.store_format.proofs.CopyRuns.{longest_alone}
+use Rattle.store_format.proofs.StandLemmas.{table_rows}
 use Rattle.store_format.proofs.SoundLemmas.{ballots_of, option_list, copy_ballots, base_own, all_kept}
 
 -- the copy that is written
@@ -88,6 +89,7 @@ after_base kept own slot rows round =
 pub base_stands : (size : TableSize) (kept : Durable) (own : Option ℕ) (slot : ℕ) (rows : List JobRow) → IsKeptSound kept own → RowsStand rows size → Stands size (base_records kept own slot rows) (after_delta (BaseDelta slot rows) kept)
 base_stands size kept own slot rows sound stand =
     let copy : Copy = written kept own slot in
+    let same_rows : rows_of_group size rows ≡ rows = table_rows size rows stand in
     let votes_are : All (λ (vote : Vote). IsWithinPromise kept.promised vote.ballot) (votes_from slot kept.votes) = all_kept (λ (vote : Vote). IsWithinPromise kept.promised vote.ballot) slot kept.votes sound.votes_promised in
     inr (record {
       slot = slot;
@@ -96,11 +98,12 @@ base_stands size kept own slot rows sound stand =
       promised = kept.promised;
       log = [];
       parts = ap (λ (behind : List Record). group_of slot rows ++ behind) (sym (append-nil (copy_records copy)));
-      rows_stand = stand;
+      rows_stand = inl stand;
       is_copy = written-IsCopy kept own slot sound.votes_rise;
       longest = longest_alone slot copy;
       greatest = subst (IsGreatest kept.promised) (sym (copy_ballots own (promise_above own kept.promised) (votes_from slot kept.votes))) (greatest_of own kept.promised (votes_from slot kept.votes) sound.own_promised votes_are);
-      is_log = subst (IsChangeLog size (after_copy slot rows copy kept.promised) []) (after_base kept own slot rows sound.round) (IsChangeLog-nil size (after_copy slot rows copy kept.promised));
+      is_log = subst (λ (all : List JobRow). IsChangeLog size (after_copy slot all copy kept.promised) [] (after_delta (BaseDelta slot rows) kept)) (sym same_rows)
+          (subst (IsChangeLog size (after_copy slot rows copy kept.promised) []) (after_base kept own slot rows sound.round) (IsChangeLog-nil size (after_copy slot rows copy kept.promised)));
     })
 
 pub base_own_ballot : (kept : Durable) (own : Option ℕ) (slot : ℕ) (rows : List JobRow) → own ≡ own_ballot (base_records kept own slot rows)

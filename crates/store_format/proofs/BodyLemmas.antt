@@ -1,21 +1,20 @@
 -- Bodies, and the first of them that is at fault.
-use Rattle.std.proofs.Common.{◌≡◌, ℕ, ◌+◌, ◌-◌, ◌<◌, ◌≤◌, ◌^◌, Option, Some, None, List, [], ◌∷◌, ◌++◌, length, map, take, drop, refl, sym, ap, ◌∙◌, subst, inl, inr, arith, append_assoc}
+use Rattle.std.proofs.Common.{◌≡◌, ℕ, true, ◌+◌, ◌-◌, ◌<◌, ◌≤◌, ◌^◌, Option, Some, None, List, [], ◌∷◌, ◌++◌, length, map, take, drop, refl, sym, ap, ◌∙◌, subst, inl, inr, arith, append_assoc}
 use Rattle.std.specs.Option.{option_or}
 use Rattle.std.specs.List.{filter_map, last_or}
-use Rattle.std.proofs.lemmas.Bool.{cases_order}
+use Rattle.std.proofs.lemmas.Bool.{cases_order, false≢true}
 use Rattle.std.proofs.lemmas.List.{append-nil, take-append-drop, take-take, take_all}
 use Rattle.std.proofs.lemmas.List.Elements.{filter_map-append}
 use Rattle.std.proofs.lemmas.Option.{none-some, same_Some}
 use Rattle.paxos_base.specs.declared.rows.TableSize.{TableSize}
 use Rattle.paxos_base.specs.declared.durable.Durable.{Durable}
 use Rattle.paxos_base.specs.declared.rows.JobRow.{JobRow}
-use Rattle.paxos_base.specs.Rows.{row_count}
 use Rattle.store_format.specs.declared.body.Record.{Record}
 use Rattle.store_format.specs.declared.body.Record.TheVariants.{Tried, Promised, Voted, Base, Row}
 use Rattle.store_format.specs.declared.place.Place.{Place}
 use Rattle.store_format.specs.declared.place.Place.TheVariants.{Start, Rows, CopyStart, CopyTried, CopyPromised, CopyVotes, Log}
-use Rattle.store_format.specs.Area.{StandFor, BodiesMayStand, IsFirstRecordAtFault, fresh_kept}
-use Rattle.store_format.specs.Places.{next_place, taken}
+use Rattle.store_format.specs.Area.{StandFor, BodiesMayStand, IsFirstRecordAtFault, fresh_kept, rows_of_group}
+use Rattle.store_format.specs.Places.{is_in_group, next_place, taken}
 use Rattle.store_format.specs.Records.{record_bytes, IsRecord, AreRecords, tried_in, own_ballot}
 use Rattle.store_format.proofs.Machine.{Reading, reading, run, runs_on, run_parts, run_steps, runs_from}
 use Rattle.store_format.proofs.StandLemmas.{first, Stands-reads, runs-Stands, with_rows}
@@ -91,21 +90,21 @@ pub Behind-none : (size : TableSize) → Behind size [] Start (fresh_kept size) 
 Behind-none size = record { items = []; are = tt; runs = refl; own_is = refl }
 
 pub Behind-next : (size : TableSize) (bodies : List (List ℕ)) (place next : Place) (kept : Durable) (own : Option ℕ) (body : List ℕ) (item : Record) → Behind size bodies place kept own → IsRecord body item → next_place size place kept item ≡ Some next
-    → Behind size (bodies ++ body ∷ []) next (taken item kept) (option_or (tried_in item) own)
+    → Behind size (bodies ++ body ∷ []) next (taken size next item kept) (option_or (tried_in item) own)
 Behind-next size bodies place next kept own body item behind is at =
     record {
       items = behind.items ++ item ∷ [];
       are = AreRecords-append bodies (body ∷ []) behind.items (item ∷ []) behind.are (is, tt);
-      runs = runs_on size (first size) (reading place kept) (reading next (taken item kept)) behind.items (item ∷ []) behind.runs (runs_from size place next kept item [] at);
+      runs = runs_on size (first size) (reading place kept) (reading next (taken size next item kept)) behind.items (item ∷ []) behind.runs (runs_from size place next kept item [] at);
       own_is = ap (option_or (tried_in item)) behind.own_is ∙ sym (own_ballot-push behind.items item);
     }
 
-pub Behind-stand : (size : TableSize) (bodies : List (List ℕ)) (place : Place) (kept : Durable) (own : Option ℕ) → Behind size bodies place kept own → (place ≡ Rows → ⊥) → StandFor size bodies kept own
+pub Behind-stand : (size : TableSize) (bodies : List (List ℕ)) (place : Place) (kept : Durable) (own : Option ℕ) → Behind size bodies place kept own → (is_in_group place ≡ true → ⊥) → StandFor size bodies kept own
 Behind-stand size bodies place kept own behind not_rows =
     record { items = behind.items; are_records = behind.are; stands = runs-Stands size behind.items (reading place kept) not_rows behind.runs; own_is = behind.own_is }
 
 -- the reader of bodies that stand for a state has come to it
-pub Behind-is : (size : TableSize) (bodies : List (List ℕ)) (place : Place) (kept other : Durable) (own others : Option ℕ) → Behind size bodies place kept own → StandFor size bodies other others → (kept ≡ other) × (own ≡ others) × (place ≡ Rows → ⊥)
+pub Behind-is : (size : TableSize) (bodies : List (List ℕ)) (place : Place) (kept other : Durable) (own others : Option ℕ) → Behind size bodies place kept own → StandFor size bodies other others → (kept ≡ other) × (own ≡ others) × (is_in_group place ≡ true → ⊥)
 Behind-is size bodies place kept other own others behind stand =
     let same_items : stand.items ≡ behind.items = AreRecords-same bodies stand.items behind.items stand.are_records behind.are in
     let reads = Stands-reads size stand.items other stand.stands in
@@ -113,7 +112,7 @@ Behind-is size bodies place kept other own others behind stand =
     same_Some (reading place kept) (reading reads.place other) (sym behind.runs ∙ ap (run size (first size)) (sym same_items) ∙ reads.runs) in (
       ap (λ (s : Reading). s.kept) same,
       behind.own_is ∙ ap own_ballot (sym same_items) ∙ sym stand.own_is,
-      λ is_rows. reads.not_rows (ap (λ (s : Reading). s.place) (sym same) ∙ is_rows),
+      λ is_rows. reads.not_rows (ap (λ (s : Reading). is_in_group s.place) (sym same) ∙ is_rows),
     )
 
 -- bodies stand for one state at most
@@ -142,37 +141,38 @@ base_fits : (bodies : List (List ℕ)) (slot count : ℕ) (rest : List Record) �
 base_fits [] slot count rest are = absurd are
 base_fits (body ∷ bodies) slot count rest are = are.0.packet.fits.slot
 
-open_may : (size : TableSize) (bodies : List (List ℕ)) (kept : Durable) (own : Option ℕ) → size.jobs < 2 ^ 32 → Behind size bodies Rows kept own → BodiesMayStand size bodies
-open_may size bodies kept own few behind =
-    let open_at = begun size behind.items (reading Rows kept) behind.runs refl in
+open_may : (size : TableSize) (bodies : List (List ℕ)) (place : Place) (kept : Durable) (own : Option ℕ) → size.jobs < 2 ^ 32 → is_in_group place ≡ true → Behind size bodies place kept own → BodiesMayStand size bodies
+open_may size bodies place kept own few is_open behind =
+    let open_at = begun size behind.items (reading place kept) behind.runs is_open in
     let slot : ℕ = open_at.slot in
+    let total : ℕ = open_at.group.total in
     let rows : List JobRow = open_at.group.rows in
-    let more : List Record = rows_of slot (missing (length rows) (row_count size - length rows)) in
-    let filled : Durable = with_rows slot (rows ++ missing (length rows) (row_count size - length rows)) in
+    let more : List Record = rows_of slot (missing (length rows) (total - length rows)) in
+    let filled : Durable = with_rows slot (rows_of_group size (rows ++ missing (length rows) (total - length rows))) in
     let fits : slot < 2 ^ 64 = base_fits bodies slot open_at.count open_at.rest (subst (AreRecords bodies) open_at.is behind.are) in
     let runs : run size (first size) (behind.items ++ more) ≡ Some (reading CopyStart filled) =
-    runs_on size (first size) (reading Rows kept) (reading CopyStart filled) behind.items more behind.runs (group_filled size slot (reading Rows kept) open_at.group) in
+    runs_on size (first size) (reading place kept) (reading CopyStart filled) behind.items more behind.runs (group_filled size slot (reading place kept) open_at.group) in
     record {
       rest = map record_bytes more;
       kept = filled;
       own = own_ballot (behind.items ++ more);
       stand = record {
         items = behind.items ++ more;
-        are_records = AreRecords-append bodies (map record_bytes more) behind.items more behind.are (missing_records slot (length rows) (row_count size - length rows) size fits (omega (arith, open_at.group.few)) few);
-        stands = runs-Stands size (behind.items ++ more) (reading CopyStart filled) (λ same. cc same) runs;
+        are_records = AreRecords-append bodies (map record_bytes more) behind.items more behind.are (missing_records slot (length rows) (total - length rows) size fits (omega (arith, open_at.group.few, open_at.group.within)) few);
+        stands = runs-Stands size (behind.items ++ more) (reading CopyStart filled) false≢true runs;
         own_is = refl;
       };
     }
 
 -- what a reader went over may yet stand for a state
 pub Behind-may : (size : TableSize) (bodies : List (List ℕ)) (place : Place) (kept : Durable) (own : Option ℕ) → size.jobs < 2 ^ 32 → Behind size bodies place kept own → BodiesMayStand size bodies
-Behind-may size bodies Start kept own few behind = stand_may size bodies kept own (Behind-stand size bodies Start kept own behind (λ same. cc same))
-Behind-may size bodies Rows kept own few behind = open_may size bodies kept own few behind
-Behind-may size bodies CopyStart kept own few behind = stand_may size bodies kept own (Behind-stand size bodies CopyStart kept own behind (λ same. cc same))
-Behind-may size bodies CopyTried kept own few behind = stand_may size bodies kept own (Behind-stand size bodies CopyTried kept own behind (λ same. cc same))
-Behind-may size bodies CopyPromised kept own few behind = stand_may size bodies kept own (Behind-stand size bodies CopyPromised kept own behind (λ same. cc same))
-Behind-may size bodies CopyVotes kept own few behind = stand_may size bodies kept own (Behind-stand size bodies CopyVotes kept own behind (λ same. cc same))
-Behind-may size bodies Log kept own few behind = stand_may size bodies kept own (Behind-stand size bodies Log kept own behind (λ same. cc same))
+Behind-may size bodies Start kept own few behind = stand_may size bodies kept own (Behind-stand size bodies Start kept own behind false≢true)
+Behind-may size bodies (Rows total) kept own few behind = open_may size bodies (Rows total) kept own few refl behind
+Behind-may size bodies CopyStart kept own few behind = stand_may size bodies kept own (Behind-stand size bodies CopyStart kept own behind false≢true)
+Behind-may size bodies CopyTried kept own few behind = stand_may size bodies kept own (Behind-stand size bodies CopyTried kept own behind false≢true)
+Behind-may size bodies CopyPromised kept own few behind = stand_may size bodies kept own (Behind-stand size bodies CopyPromised kept own behind false≢true)
+Behind-may size bodies CopyVotes kept own few behind = stand_may size bodies kept own (Behind-stand size bodies CopyVotes kept own behind false≢true)
+Behind-may size bodies Log kept own few behind = stand_may size bodies kept own (Behind-stand size bodies Log kept own behind false≢true)
 
 -- the reader goes on with no record that the body is of
 abbrev pub IsRefused : TableSize → Place → Durable → List ℕ → Type 0
@@ -227,23 +227,22 @@ fault_here size bodies k place kept own body few within more behind is_refused =
     }
 
 -- at the end, in the middle of a group
-pub fault_at_end : (size : TableSize) (bodies : List (List ℕ)) (k : ℕ) (kept : Durable) (own : Option ℕ) → size.jobs < 2 ^ 32 → k ≡ length bodies → Behind size bodies Rows kept own → IsFirstRecordAtFault size bodies k
-fault_at_end size bodies k kept own few at behind =
+pub fault_at_end : (size : TableSize) (bodies : List (List ℕ)) (k : ℕ) (place : Place) (kept : Durable) (own : Option ℕ) → size.jobs < 2 ^ 32 → k ≡ length bodies → Behind size bodies place kept own → is_in_group place ≡ true → IsFirstRecordAtFault size bodies k
+fault_at_end size bodies k place kept own few at behind is_open =
     let all : take k bodies ≡ bodies = take_all k bodies (omega (arith, at)) in
     record {
       within = omega (arith, at);
-      earlier = λ j before. earlier_may size bodies k j before (omega (arith, at)) (subst (BodiesMayStand size) (sym all) (Behind-may size bodies Rows kept own few behind));
+      earlier = λ j before. earlier_may size bodies k j before (omega (arith, at)) (subst (BodiesMayStand size) (sym all) (Behind-may size bodies place kept own few behind));
       here = λ short may. omega (arith, at, short);
-      for_none = λ other others stand. (Behind-is size bodies Rows kept other own others behind stand).2 refl;
+      for_none = λ other others stand. (Behind-is size bodies place kept other own others behind stand).2 is_open;
     }
 
 -- behind all bodies
-pub broken_off : (size : TableSize) (bodies : List (List ℕ)) (k : ℕ) (place : Place) (kept : Durable) (own : Option ℕ) → size.jobs < 2 ^ 32 → length bodies ≤ k → Behind size (take k bodies) place kept own → place ≡ Rows → IsFirstRecordAtFault size bodies (length bodies)
-broken_off size bodies k place kept own few past behind is_rows =
-    fault_at_end size bodies (length bodies) kept own few refl
-    (subst (λ (p : Place). Behind size bodies p kept own) is_rows (subst (λ (all : List (List ℕ)). Behind size all place kept own) (take_all k bodies past) behind))
+pub broken_off : (size : TableSize) (bodies : List (List ℕ)) (k : ℕ) (place : Place) (kept : Durable) (own : Option ℕ) → size.jobs < 2 ^ 32 → length bodies ≤ k → Behind size (take k bodies) place kept own → is_in_group place ≡ true → IsFirstRecordAtFault size bodies (length bodies)
+broken_off size bodies k place kept own few past behind is_open =
+    fault_at_end size bodies (length bodies) place kept own few refl (subst (λ (all : List (List ℕ)). Behind size all place kept own) (take_all k bodies past) behind) is_open
 
-pub all_read : (size : TableSize) (bodies : List (List ℕ)) (k : ℕ) (place : Place) (kept : Durable) (own : Option ℕ) → length bodies ≤ k → Behind size (take k bodies) place kept own → (place ≡ Rows → ⊥) → StandFor size bodies kept own
+pub all_read : (size : TableSize) (bodies : List (List ℕ)) (k : ℕ) (place : Place) (kept : Durable) (own : Option ℕ) → length bodies ≤ k → Behind size (take k bodies) place kept own → (is_in_group place ≡ true → ⊥) → StandFor size bodies kept own
 all_read size bodies k place kept own past behind not_rows =
     Behind-stand size bodies place kept own (subst (λ (all : List (List ℕ)). Behind size all place kept own) (take_all k bodies past) behind) not_rows
 

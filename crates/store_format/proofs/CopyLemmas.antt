@@ -7,6 +7,7 @@ use Rattle.std.proofs.lemmas.List.{map-append}
 use Rattle.std.proofs.lemmas.List.Elements.{All-nil, All-cons, All-push, All-weaker, All-contains, Contains-append_left, Contains-push, filter_map-append}
 use Rattle.std.proofs.lemmas.List.Quantifiers.{all_pairs_push}
 use Rattle.std.proofs.lemmas.Option.{none-some, same_Some}
+use Rattle.paxos_base.specs.declared.rows.TableSize.{TableSize}
 use Rattle.paxos_base.specs.declared.entry.Vote.{Vote}
 use Rattle.paxos_base.specs.declared.rows.JobRow.{JobRow}
 use Rattle.paxos_base.specs.Vote.{SlotsRise, votes_below, votes_from, put_vote}
@@ -148,7 +149,7 @@ pub record GoesOn (slot : ℕ) (rows : List JobRow) (form : Form) (promised : Op
   pub greater : Option ℕ
   pub place : next ≡ place_of_form (form_with form item)
   pub records : copy_records (copy_of (form_with form item)) ≡ copy_records (copy_of form) ++ item ∷ []
-  pub kept : taken item (after_copy slot rows (copy_of form) promised) ≡ after_copy slot rows (copy_of (form_with form item)) greater
+  pub kept : (size : TableSize) → taken size next item (after_copy slot rows (copy_of form) promised) ≡ after_copy slot rows (copy_of (form_with form item)) greater
   pub copied : Copied slot (form_with form item) greater
 
 copied-push : (slot : ℕ) (form next : Form) (promised : Option ℕ) (item : Record) (ballot : ℕ) → Copied slot form promised → copy_records (copy_of next) ≡ copy_records (copy_of form) ++ item ∷ [] → filter_map record_ballot (item ∷ []) ≡ ballot ∷ [] → IsCopy slot (copy_of next)
@@ -187,9 +188,9 @@ IsCopy-push slot tried promised votes vote is from below =
       from_base = All-push (λ (v : Vote). slot ≤ v.slot) votes vote is.from_base from;
     }
 
-vote_kept : (slot : ℕ) (rows : List JobRow) (copy : Copy) (promised : Option ℕ) (vote : Vote) → AllBelow vote.slot copy.votes
-    → taken (Voted vote) (after_copy slot rows copy promised) ≡ after_copy slot rows (copy_with copy.tried copy.promised (copy.votes ++ vote ∷ [])) (Some (max (unwrap_or promised 0) vote.ballot))
-vote_kept slot rows copy promised vote below =
+vote_kept : (size : TableSize) (place : Place) (slot : ℕ) (rows : List JobRow) (copy : Copy) (promised : Option ℕ) (vote : Vote) → AllBelow vote.slot copy.votes
+    → taken size place (Voted vote) (after_copy slot rows copy promised) ≡ after_copy slot rows (copy_with copy.tried copy.promised (copy.votes ++ vote ∷ [])) (Some (max (unwrap_or promised 0) vote.ballot))
+vote_kept size place slot rows copy promised vote below =
     ap (λ (votes : List Vote). after_copy slot rows (copy_with copy.tried copy.promised votes) (Some (max (unwrap_or promised 0) vote.ballot))) (put_last vote copy.votes below)
 
 pub vote_goes_on : (slot : ℕ) (rows : List JobRow) (form : Form) (promised : Option ℕ) (vote : Vote) → Copied slot form promised → slot ≤ vote.slot → AllBelow vote.slot (copy_of form).votes → GoesOn slot rows form promised (Voted vote) CopyVotes
@@ -199,7 +200,7 @@ vote_goes_on slot rows Nothing promised vote copied from below =
       greater = Some (max (unwrap_or promised 0) vote.ballot);
       place = refl;
       records = records;
-      kept = vote_kept slot rows (copy_of Nothing) promised vote below;
+      kept = λ size. vote_kept size CopyVotes slot rows (copy_of Nothing) promised vote below;
       copied = copied-push slot Nothing (Votes None None (vote ∷ [])) promised (Voted vote) vote.ballot copied records refl (IsCopy-push slot None None [] vote copied.is_copy from below);
     }
 vote_goes_on slot rows (OwnBallot own) promised vote copied from below =
@@ -208,7 +209,7 @@ vote_goes_on slot rows (OwnBallot own) promised vote copied from below =
       greater = Some (max (unwrap_or promised 0) vote.ballot);
       place = refl;
       records = records;
-      kept = vote_kept slot rows (copy_of (OwnBallot own)) promised vote below;
+      kept = λ size. vote_kept size CopyVotes slot rows (copy_of (OwnBallot own)) promised vote below;
       copied = copied-push slot (OwnBallot own) (Votes (Some own) None (vote ∷ [])) promised (Voted vote) vote.ballot copied records refl (IsCopy-push slot (Some own) None [] vote copied.is_copy from below);
     }
 vote_goes_on slot rows (Promise tried ballot) promised vote copied from below =
@@ -217,7 +218,7 @@ vote_goes_on slot rows (Promise tried ballot) promised vote copied from below =
       greater = Some (max (unwrap_or promised 0) vote.ballot);
       place = refl;
       records = records;
-      kept = vote_kept slot rows (copy_of (Promise tried ballot)) promised vote below;
+      kept = λ size. vote_kept size CopyVotes slot rows (copy_of (Promise tried ballot)) promised vote below;
       copied = copied-push slot (Promise tried ballot) (Votes tried (Some ballot) (vote ∷ [])) promised (Voted vote) vote.ballot copied records refl (IsCopy-push slot tried (Some ballot) [] vote copied.is_copy from below);
     }
 vote_goes_on slot rows (Votes tried was votes) promised vote copied from below =
@@ -226,7 +227,7 @@ vote_goes_on slot rows (Votes tried was votes) promised vote copied from below =
       greater = Some (max (unwrap_or promised 0) vote.ballot);
       place = refl;
       records = records;
-      kept = vote_kept slot rows (copy_of (Votes tried was votes)) promised vote below;
+      kept = λ size. vote_kept size CopyVotes slot rows (copy_of (Votes tried was votes)) promised vote below;
       copied = copied-push slot (Votes tried was votes) (Votes tried was (votes ++ vote ∷ [])) promised (Voted vote) vote.ballot copied records refl (IsCopy-push slot tried was votes vote copied.is_copy from below);
     }
 
@@ -243,7 +244,7 @@ tried_goes_on slot rows promised ballot copied =
       greater = Some ballot;
       place = refl;
       records = refl;
-      kept = refl;
+      kept = λ size. refl;
       copied = copied-above slot Nothing (OwnBallot ballot) promised (Tried ballot) ballot copied refl refl (record { above = tt; rise = no_votes slot; from_base = All-nil _ }) (above_max promised ballot above);
     }
 
@@ -253,7 +254,7 @@ promise_goes_on slot rows promised ballot copied above =
       greater = Some ballot;
       place = refl;
       records = refl;
-      kept = refl;
+      kept = λ size. refl;
       copied = copied-above slot Nothing (Promise None ballot) promised (Promised ballot) ballot copied refl refl (record { above = tt; rise = no_votes slot; from_base = All-nil _ }) (above_max promised ballot above);
     }
 
@@ -266,7 +267,7 @@ own_promise_goes_on slot rows own promised ballot copied above =
       greater = Some ballot;
       place = refl;
       records = refl;
-      kept = refl;
+      kept = λ size. refl;
       copied = copied-above slot (OwnBallot own) (Promise (Some own) ballot) promised (Promised ballot) ballot copied refl refl (record { above = over; rise = no_votes slot; from_base = All-nil _ }) (above_max promised ballot above);
     }
 

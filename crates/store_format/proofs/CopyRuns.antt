@@ -2,7 +2,7 @@
 use Rattle.std.proofs.Common.{◌≡◌, ℕ, ◌+◌, ◌<◌, ◌≤◌, Bool, true, ◌&&◌, leb, Option, Some, None, List, [], ◌∷◌, ◌++◌, length, map, get_or, refl, sym, ap, ◌∙◌, subst, inl, inr, arith, append_assoc}
 use Rattle.std.specs.Prelude.{All, if◌then◌else◌}
 use Rattle.std.specs.List.{filter_map}
-use Rattle.std.proofs.lemmas.Bool.{and_from, le-leb, cases_lt, lt-ltb}
+use Rattle.std.proofs.lemmas.Bool.{false≢true, and_from, le-leb, cases_lt, lt-ltb}
 use Rattle.std.proofs.lemmas.List.{append-nil, length-append, get_or_append_left, get_or_at}
 use Rattle.std.proofs.lemmas.List.Elements.{All-nil, All-cons, All-head, All-tail, Contains-push}
 use Rattle.std.proofs.lemmas.Option.{same_Some}
@@ -17,7 +17,7 @@ use Rattle.store_format.specs.declared.place.Place.{Place}
 use Rattle.store_format.specs.declared.place.Place.TheVariants.{Start, Rows, CopyStart, CopyTried, CopyPromised, CopyVotes, Log}
 use Rattle.store_format.specs.Area.{Copy, copy_records, IsCopy, IsLongest, IsGreatest, after_copy}
 use Rattle.store_format.specs.Order.{IsChangeLog}
-use Rattle.store_format.specs.Places.{copy_place, takes_votes, is_behind, is_above}
+use Rattle.store_format.specs.Places.{copy_place, is_in_group, takes_votes, is_behind, is_above}
 use Rattle.store_format.specs.Records.{record_ballot}
 use Rattle.store_format.proofs.Machine.{Reading, reading, run, runs_on, run_parts, runs_from, runs_as_log, copy_ends, copy_goes_on, option_cases}
 use Rattle.store_format.proofs.LogLemmas.{runs_log, log_runs, IsChangeLog-nil, IsChangeLog-empty}
@@ -32,7 +32,7 @@ pub go_step : (size : TableSize) (slot : ℕ) (rows : List JobRow) (form : Form)
     → run size (state slot rows form promised) (item ∷ items) ≡ run size (state slot rows (form_with form item) goes.greater) items
 go_step size slot rows form promised item items next at goes =
     runs_from size (place_of_form form) next (after_copy slot rows (copy_of form) promised) item items (copy_goes_on size (place_of_form form) next (after_copy slot rows (copy_of form) promised) item (form_copies form) at)
-    ∙ ap (λ (k : Durable). run size (reading next k) items) goes.kept
+    ∙ ap (λ (k : Durable). run size (reading next k) items) (goes.kept size)
     ∙ ap (λ (p : Place). run size (reading p (after_copy slot rows (copy_of (form_with form item)) goes.greater)) items) goes.place
 
 -- ---- a copy is read
@@ -53,7 +53,7 @@ form_with_vote (Votes tried promised votes) vote = refl
 
 vote_place_at : (place : Place) (kept : Durable) (vote : Vote) → (takes_votes place && (leb kept.base vote.slot && is_behind vote.slot kept.votes)) ≡ true → copy_place place kept (Voted vote) ≡ Some CopyVotes
 vote_place_at Start kept vote test = absurd (cc test)
-vote_place_at Rows kept vote test = absurd (cc test)
+vote_place_at (Rows total) kept vote test = absurd (cc test)
 vote_place_at CopyStart kept vote test = ap (λ (b : Bool). if b then Some CopyVotes else None) test
 vote_place_at CopyTried kept vote test = ap (λ (b : Bool). if b then Some CopyVotes else None) test
 vote_place_at CopyPromised kept vote test = ap (λ (b : Bool). if b then Some CopyVotes else None) test
@@ -265,10 +265,13 @@ longest_ends size slot rows form promised item items copied longest = elim (opti
 pub record Reads (size : TableSize) (first : Reading) (items : List Record) (kept : Durable) : Type 0 where
   pub place : Place
   pub runs : run size first items ≡ Some (reading place kept)
-  pub not_rows : place ≡ Rows → ⊥
+  pub not_rows : is_in_group place ≡ true → ⊥
 
-pub form_not_rows : (form : Form) → place_of_form form ≡ Rows → ⊥
-form_not_rows form same = absurd (cc (form_copies form, same))
+pub form_not_rows : (form : Form) → is_in_group (place_of_form form) ≡ true → ⊥
+form_not_rows Nothing same = false≢true same
+form_not_rows (OwnBallot ballot) same = false≢true same
+form_not_rows (Promise tried ballot) same = false≢true same
+form_not_rows (Votes tried promised votes) same = false≢true same
 
 log_reads : (size : TableSize) (slot : ℕ) (rows : List JobRow) (form : Form) (promised : Option ℕ) (log : List Record) (kept : Durable) → Copied slot form promised → IsLongest slot (copy_of form) (copy_records (copy_of form) ++ log)
     → IsChangeLog size (after_copy slot rows (copy_of form) promised) log kept → Reads size (state slot rows form promised) log kept
@@ -284,7 +287,7 @@ log_reads size slot rows form promised (item ∷ items) kept copied longest is_l
     record {
       place = Log;
       runs = runs_as_log size (place_of_form form) first item items (copy_ends size (place_of_form form) first item (form_copies form) none) ∙ log_runs size first kept (item ∷ items) is_log;
-      not_rows = λ same. cc same;
+      not_rows = false≢true;
     }
 
 pub copy_reads : (size : TableSize) (slot : ℕ) (rows : List JobRow) (copy : Copy) (promised : Option ℕ) (log : List Record) (kept : Durable) → IsCopy slot copy → IsLongest slot copy (copy_records copy ++ log)

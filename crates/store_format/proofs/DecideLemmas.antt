@@ -21,9 +21,9 @@ use Rattle.paxos_letter.proofs.SingleLemmas.{fields_again}
 use Rattle.store_format.specs.declared.body.Record.{Record}
 use Rattle.store_format.specs.declared.body.Record.TheVariants.{Tried, Promised, Voted, Base, Row}
 use Rattle.store_format.specs.declared.place.Place.{Place}
-use Rattle.store_format.specs.declared.place.Place.TheVariants.{Start, Rows, CopyStart, CopyTried, CopyPromised, CopyVotes, Log}
+use Rattle.store_format.specs.declared.place.Place.TheVariants.{Start}
 use Rattle.store_format.specs.Area.{StandFor, IsFirstRecordAtFault, fresh_kept}
-use Rattle.store_format.specs.Places.{next_place, taken}
+use Rattle.store_format.specs.Places.{is_in_group, next_place, taken}
 use Rattle.store_format.specs.Records.{record_kind, record_packet, record_bytes, IsRecord}
 use Rattle.store_format.proofs.Machine.{option_cases}
 use Rattle.store_format.proofs.RecordLemmas.{packet_kind_of, IsRecord-kind, IsRecord-packet, IsRecord-same}
@@ -158,15 +158,6 @@ body_decided body = elim (record_decided body (candidate body)) [
 
 -- ---- the first fault
 
-rows_decided : (place : Place) → Decided (place ≡ Rows)
-rows_decided Start = inr (λ same. cc same)
-rows_decided Rows = inl refl
-rows_decided CopyStart = inr (λ same. cc same)
-rows_decided CopyTried = inr (λ same. cc same)
-rows_decided CopyPromised = inr (λ same. cc same)
-rows_decided CopyVotes = inr (λ same. cc same)
-rows_decided Log = inr (λ same. cc same)
-
 abbrev Faulty : TableSize → List (List ℕ) → Type 0
 Faulty size bodies = (k : ℕ) × IsFirstRecordAtFault size bodies k
 
@@ -174,8 +165,8 @@ abbrev StandForNone : TableSize → List (List ℕ) → Type 0
 StandForNone size bodies = (kept : Durable) (own : Option ℕ) → StandFor size bodies kept own → ⊥
 
 at_end : (size : TableSize) (bodies : List (List ℕ)) (place : Place) (kept : Durable) (own : Option ℕ) → size.jobs < 2 ^ 32 → Behind size bodies place kept own → StandForNone size bodies → Faulty size bodies
-at_end size bodies place kept own few behind none = elim (rows_decided place) [
-  | inl is ↦ (length bodies, fault_at_end size bodies (length bodies) kept own few refl (subst (λ (p : Place). Behind size bodies p kept own) is behind))
+at_end size bodies place kept own few behind none = elim (true_decided (is_in_group place)) [
+  | inl is ↦ (length bodies, fault_at_end size bodies (length bodies) place kept own few refl behind is)
   | inr is_not ↦ absurd (none kept own (Behind-stand size bodies place kept own behind is_not))
 ]
 
@@ -200,7 +191,7 @@ fault_from size front (body ∷ bodies) place kept own few behind none = elim (b
     | inr (next, at) ↦
         let parts : (front ++ body ∷ []) ++ bodies ≡ front ++ body ∷ bodies = append_assoc front (body ∷ []) bodies in
         subst (Faulty size) parts
-        (fault_from size (front ++ body ∷ []) bodies next (taken item kept) _ few (Behind-next size front place next kept own body item behind is at) (subst (StandForNone size) (sym parts) none))
+        (fault_from size (front ++ body ∷ []) bodies next (taken size next item kept) _ few (Behind-next size front place next kept own body item behind is at) (subst (StandForNone size) (sym parts) none))
   ]
   | inr unread ↦ at_body size front body bodies place kept own few behind (λ item is. absurd (unread item is))
 ]

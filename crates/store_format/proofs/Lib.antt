@@ -4,6 +4,7 @@ pub mod ChangeLemmas
 pub mod CopyLemmas
 pub mod CopyRuns
 pub mod DecideLemmas
+pub mod FormatLemmas
 pub mod GroupLemmas
 pub mod LogLemmas
 pub mod Machine

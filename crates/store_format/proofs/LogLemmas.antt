@@ -46,31 +46,31 @@ greatest-at_least ballot (Some other) h = omega (arith, h)
 pub record Follows (size : TableSize) (kept : Durable) (item : Record) (change : Delta) : Type 0 where
   pub is_record : delta_record change ≡ Some item
   pub may_follow : ChangeMayFollow size kept change
-  pub after : taken item kept ≡ after_delta change kept
+  pub after : (place : Place) → taken size place item kept ≡ after_delta change kept
 
-vote_taken : (vote : Vote) (kept : Durable) → IsAtLeast vote.ballot kept.promised → taken (Voted vote) kept ≡ after_delta (VotedDelta vote) kept
+vote_taken : (size : TableSize) (place : Place) (vote : Vote) (kept : Durable) → IsAtLeast vote.ballot kept.promised → taken size place (Voted vote) kept ≡ after_delta (VotedDelta vote) kept
 unfolding after_delta
-vote_taken vote kept h =
+vote_taken size place vote kept h =
     ap (λ (ballot : ℕ). record kept { promised = Some ballot; votes = put_vote vote kept.votes }) (greatest-at_least vote.ballot kept.promised h)
 
 pub follows : (size : TableSize) (kept : Durable) (item : Record) → keeps_order kept item ≡ true → (change : Delta) × Follows size kept item change
 unfolding after_delta
 follows size kept (Tried ballot) keeps =
     let parts = and_parts (ltb kept.tried (round_of ballot)) (is_above ballot kept.promised) keeps in
-    (TriedDelta ballot, record { is_record = refl; may_follow = (ltb-true kept.tried (round_of ballot) parts.0, is_above-above ballot kept.promised parts.1); after = refl })
+    (TriedDelta ballot, record { is_record = refl; may_follow = (ltb-true kept.tried (round_of ballot) parts.0, is_above-above ballot kept.promised parts.1); after = λ place. refl })
 follows size kept (Promised ballot) keeps =
-    (PromisedDelta ballot, record { is_record = refl; may_follow = is_above-above ballot kept.promised keeps; after = refl })
+    (PromisedDelta ballot, record { is_record = refl; may_follow = is_above-above ballot kept.promised keeps; after = λ place. refl })
 follows size kept (Voted vote) keeps =
     let parts = and_parts (is_at_least vote.ballot kept.promised) (leb kept.base vote.slot) keeps in
     let least : IsAtLeast vote.ballot kept.promised = is_at_least-at_least vote.ballot kept.promised parts.0 in
-    (VotedDelta vote, record { is_record = refl; may_follow = (least, leb-true kept.base vote.slot parts.1); after = vote_taken vote kept least })
+    (VotedDelta vote, record { is_record = refl; may_follow = (least, leb-true kept.base vote.slot parts.1); after = λ place. vote_taken size place vote kept least })
 follows size kept (Base slot count) keeps = absurd (false≢true keeps)
 follows size kept (Row slot row) keeps = absurd (false≢true keeps)
 
 -- the other way
 pub record Keeps (kept : Durable) (item : Record) (change : Delta) : Type 0 where
   pub order : keeps_order kept item ≡ true
-  pub after : taken item kept ≡ after_delta change kept
+  pub after : (size : TableSize) (place : Place) → taken size place item kept ≡ after_delta change kept
   pub is_change : IsChange item
 
 keeps_at : (size : TableSize) (kept : Durable) (item other : Record) (change : Delta) → item ≡ other → Keeps kept other change → Keeps kept item change
@@ -80,13 +80,13 @@ pub keeps : (size : TableSize) (kept : Durable) (item : Record) (change : Delta)
 unfolding after_delta
 keeps size kept item (TriedDelta ballot) is may =
     keeps_at size kept item (Tried ballot) (TriedDelta ballot) (sym (same_Some (Tried ballot) item is))
-    (record { order = and_from _ _ (lt-ltb kept.tried (round_of ballot) may.0) (above-is_above ballot kept.promised may.1); after = refl; is_change = tt })
+    (record { order = and_from _ _ (lt-ltb kept.tried (round_of ballot) may.0) (above-is_above ballot kept.promised may.1); after = λ size place. refl; is_change = tt })
 keeps size kept item (PromisedDelta ballot) is may =
     keeps_at size kept item (Promised ballot) (PromisedDelta ballot) (sym (same_Some (Promised ballot) item is))
-    (record { order = above-is_above ballot kept.promised may; after = refl; is_change = tt })
+    (record { order = above-is_above ballot kept.promised may; after = λ size place. refl; is_change = tt })
 keeps size kept item (VotedDelta vote) is may =
     keeps_at size kept item (Voted vote) (VotedDelta vote) (sym (same_Some (Voted vote) item is))
-    (record { order = and_from _ _ (at_least-is_at_least vote.ballot kept.promised may.0) (le-leb kept.base vote.slot may.1); after = vote_taken vote kept may.0; is_change = tt })
+    (record { order = and_from _ _ (at_least-is_at_least vote.ballot kept.promised may.0) (le-leb kept.base vote.slot may.1); after = λ size place. vote_taken size place vote kept may.0; is_change = tt })
 keeps size kept item (BaseDelta slot rows) is may = absurd (none-some item is)
 
 -- ---- logs from the front
@@ -151,7 +151,7 @@ log_runs size kept last (item ∷ items) log =
     let parts = IsChangeLog-uncons size kept last item items log in
     let now = keeps size kept item parts.change parts.is_record parts.may_follow in
     runs_from size Log Log kept item items (next-log size kept item ∙ log_place-keeps kept item now.order)
-    ∙ ap (λ (k : Durable). run size (reading Log k) items) now.after
+    ∙ ap (λ (k : Durable). run size (reading Log k) items) (now.after size Log)
     ∙ log_runs size (after_delta parts.change kept) last items parts.rest
 
 -- what is read in a log is one
@@ -164,6 +164,6 @@ runs_log size kept (item ∷ items) t e =
     let at = to_log kept item parts.next (sym (next-log size kept item) ∙ parts.at) in
     let now = follows size kept item at.1 in
     let rest : run size (reading Log (after_delta now.0 kept)) items ≡ Some t =
-    ap (λ (k : Durable). run size (reading Log k) items) (sym now.1.after) ∙ ap (λ (p : Place). run size (reading p (taken item kept)) items) (sym at.0) ∙ parts.rest in
+    ap (λ (k : Durable). run size (reading Log k) items) (sym (now.1.after Log)) ∙ ap (λ (p : Place). run size (reading p (taken size p item kept)) items) (sym at.0) ∙ parts.rest in
     let log = runs_log size (after_delta now.0 kept) items t rest in
     (log.0, IsChangeLog-cons size kept t.kept item items now.0 now.1.is_record now.1.may_follow log.1)

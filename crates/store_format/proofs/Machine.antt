@@ -19,7 +19,7 @@ abbrev pub reading : Place → Durable → Reading
 reading place kept = record { place = place; kept = kept }
 
 abbrev pub step : TableSize → Reading → Record → Option Reading
-step size s item = option_map (λ (place : Place). reading place (taken item s.kept)) (next_place size s.place s.kept item)
+step size s item = option_map (λ (place : Place). reading place (taken size place item s.kept)) (next_place size s.place s.kept item)
 
 abbrev pub run : TableSize → Reading → List Record → Option Reading
 run size s [] = Some s
@@ -54,19 +54,19 @@ run_parts size s u xs ys whole =
     (λ middle first second. record { middle = middle; first = first; second = second })
 
 -- a step to a place
-pub step_to : (size : TableSize) (place next : Place) (kept : Durable) (item : Record) → next_place size place kept item ≡ Some next → step size (reading place kept) item ≡ Some (reading next (taken item kept))
-step_to size place next kept item at = ap (option_map (λ (p : Place). reading p (taken item kept))) at
+pub step_to : (size : TableSize) (place next : Place) (kept : Durable) (item : Record) → next_place size place kept item ≡ Some next → step size (reading place kept) item ≡ Some (reading next (taken size next item kept))
+step_to size place next kept item at = ap (option_map (λ (p : Place). reading p (taken size p item kept))) at
 
-pub runs_from : (size : TableSize) (place next : Place) (kept : Durable) (item : Record) (items : List Record) → next_place size place kept item ≡ Some next → run size (reading place kept) (item ∷ items) ≡ run size (reading next (taken item kept)) items
+pub runs_from : (size : TableSize) (place next : Place) (kept : Durable) (item : Record) (items : List Record) → next_place size place kept item ≡ Some next → run size (reading place kept) (item ∷ items) ≡ run size (reading next (taken size next item kept)) items
 runs_from size place next kept item items at =
     ap (option_and_then (λ (s : Reading). run size s items)) (step_to size place next kept item at)
 
 pub record Steps (size : TableSize) (place : Place) (kept : Durable) (item : Record) (items : List Record) (u : Reading) : Type 0 where
   pub next : Place
   pub at : next_place size place kept item ≡ Some next
-  pub rest : run size (reading next (taken item kept)) items ≡ Some u
+  pub rest : run size (reading next (taken size next item kept)) items ≡ Some u
 
-step_parts : (size : TableSize) (place : Place) (kept : Durable) (item : Record) (items : List Record) (u : Reading) (o : Option Place) → next_place size place kept item ≡ o → option_and_then (λ (s : Reading). run size s items) (option_map (λ (p : Place). reading p (taken item kept)) o) ≡ Some u → Steps size place kept item items u
+step_parts : (size : TableSize) (place : Place) (kept : Durable) (item : Record) (items : List Record) (u : Reading) (o : Option Place) → next_place size place kept item ≡ o → option_and_then (λ (s : Reading). run size s items) (option_map (λ (p : Place). reading p (taken size p item kept)) o) ≡ Some u → Steps size place kept item items u
 step_parts size place kept item items u None at e = absurd (none-some u e)
 step_parts size place kept item items u (Some next) at e = record { next = next; at = at; rest = e }
 
@@ -85,7 +85,7 @@ next-log size kept (Row slot row) = refl
 -- in a copy
 pub next-copy : (size : TableSize) (place : Place) (kept : Durable) (item : Record) → takes_votes place ≡ true → next_place size place kept item ≡ option_or (copy_place place kept item) (log_place kept item)
 next-copy size Start kept item copies = absurd (cc copies)
-next-copy size Rows kept item copies = absurd (cc copies)
+next-copy size (Rows total) kept item copies = absurd (cc copies)
 next-copy size CopyStart kept item copies = refl
 next-copy size CopyTried kept item copies = refl
 next-copy size CopyPromised kept item copies = refl
@@ -108,7 +108,7 @@ next-start size kept (Row slot row) change = absurd change
 -- the record leads where it would in a log
 pub runs_as_log : (size : TableSize) (place : Place) (kept : Durable) (item : Record) (items : List Record) → next_place size place kept item ≡ log_place kept item → run size (reading place kept) (item ∷ items) ≡ run size (reading Log kept) (item ∷ items)
 runs_as_log size place kept item items same =
-    ap (λ (o : Option Place). option_and_then (λ (s : Reading). run size s items) (option_map (λ (p : Place). reading p (taken item kept)) o)) (same ∙ sym (next-log size kept item))
+    ap (λ (o : Option Place). option_and_then (λ (s : Reading). run size s items) (option_map (λ (p : Place). reading p (taken size p item kept)) o)) (same ∙ sym (next-log size kept item))
 
 pub copy_ends : (size : TableSize) (place : Place) (kept : Durable) (item : Record) → takes_votes place ≡ true → copy_place place kept item ≡ None → next_place size place kept item ≡ log_place kept item
 copy_ends size place kept item copies none =

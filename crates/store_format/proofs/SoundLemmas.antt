@@ -16,7 +16,7 @@ use Rattle.paxos_base.proofs.PutLemmas.{all_from, SlotsRise-votes_from, SlotsRis
 use Rattle.paxos_base.specs.Ballot.{IsAbove, IsAtLeast}
 use Rattle.store_format.specs.declared.body.Record.{Record}
 use Rattle.store_format.specs.declared.body.Record.TheVariants.{Tried, Promised, Voted, Row}
-use Rattle.store_format.specs.Area.{Stands, StandFor, fresh_kept, group_of, Copy, copy_records, IsCopy, IsGreatest, after_copy}
+use Rattle.store_format.specs.Area.{Stands, StandFor, fresh_kept, group_of, Copy, copy_records, IsCopy, IsGreatest, after_copy, rows_of_group}
 use Rattle.store_format.specs.Order.{ChangeMayFollow, delta_record, IsChangeLog, IsKeptSound, IsWithinPromise, own_after}
 use Rattle.store_format.specs.Records.{record_ballot, tried_in, own_ballot}
 use Rattle.store_format.proofs.LogLemmas.{IsChangeLog-uncons, IsChangeLog-empty}
@@ -200,7 +200,8 @@ Stands-sound size items kept (inl log) = IsKeptSound-log size (fresh_kept size) 
 Stands-sound size items kept (inr base) =
     let own : own_ballot items ≡ last_or base.copy.tried (filter_map tried_in base.log) = ap own_ballot base.parts ∙ base_own base.slot base.rows base.copy base.log in
     subst (IsKeptSound kept) (sym own)
-    (IsKeptSound-log size (after_copy base.slot base.rows base.copy base.promised) kept base.copy.tried base.log base.is_log (IsKeptSound-copy base.slot base.rows base.copy base.promised base.is_copy base.greatest))
+    (IsKeptSound-log size (after_copy base.slot (rows_of_group size base.rows) base.copy base.promised) kept base.copy.tried base.log base.is_log
+    (IsKeptSound-copy base.slot (rows_of_group size base.rows) base.copy base.promised base.is_copy base.greatest))
 
 pub StandFor-sound : (size : TableSize) (bodies : List (List ℕ)) (kept : Durable) (own : Option ℕ) → StandFor size bodies kept own → IsKeptSound kept own
 StandFor-sound size bodies kept own stand = subst (IsKeptSound kept) (sym stand.own_is) (Stands-sound size stand.items kept stand.stands)

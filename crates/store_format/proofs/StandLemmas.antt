@@ -1,20 +1,21 @@
 -- What records stand for is what a reader comes to.
-use Rattle.std.proofs.Common.{◌≡◌, ℕ, zero, suc, ◌+◌, ◌≤◌, Bool, true, false, ◌&&◌, eqb, Some, None, List, [], ◌∷◌, ◌++◌, length, map, refl, sym, ap, ◌∙◌, subst, inl, inr, arith, append_assoc}
-use Rattle.std.specs.Prelude.{slice_get, if◌then◌else◌}
-use Rattle.std.proofs.lemmas.Bool.{and_parts, and_from, eq-eqb, eqb-true, ne_eqb, cases_eq}
+use Rattle.std.proofs.Common.{◌≡◌, ℕ, zero, suc, ◌+◌, ◌<◌, Bool, true, false, ◌&&◌, ◌||◌, eqb, leb, Some, None, List, [], ◌∷◌, ◌++◌, length, map, refl, sym, ap, ◌∙◌, subst, inl, inr, arith, append_assoc}
+use Rattle.std.specs.Prelude.{◌⊎◌, slice_get, if◌then◌else◌}
+use Rattle.std.proofs.lemmas.Bool.{false≢true, and_parts, and_from, eq-eqb, eqb-true, le-leb, ne_eqb, cases_eq}
+use Rattle.std.proofs.Math.Bool.{or-true}
 use Rattle.std.proofs.lemmas.List.{append-nil, length-append}
-use Rattle.std.proofs.lemmas.Option.{none-some, same_Some}
+use Rattle.std.proofs.lemmas.Option.{none-some, same_Some, slice_get_within}
 use Rattle.paxos_base.specs.declared.rows.TableSize.{TableSize}
 use Rattle.paxos_base.specs.declared.durable.Durable.{Durable}
 use Rattle.paxos_base.specs.declared.rows.JobRow.{JobRow}
-use Rattle.paxos_base.specs.Rows.{RowsStand, fits_table, is_table_row, row_count}
+use Rattle.paxos_base.specs.Rows.{AreNumbered, RowsStand, fits_table, fresh_row, is_table_row, row_count}
 use Rattle.store_format.specs.declared.body.Record.{Record}
 use Rattle.store_format.specs.declared.body.Record.TheVariants.{Tried, Promised, Voted, Base, Row}
 use Rattle.store_format.specs.declared.place.Place.{Place}
 use Rattle.store_format.specs.declared.place.Place.TheVariants.{Start, Rows, CopyStart, Log}
-use Rattle.store_format.specs.Area.{Stands, StandsFromBase, fresh_kept, group_of, copy_records}
+use Rattle.store_format.specs.Area.{GroupStands, Stands, StandsFromBase, fresh_kept, group_of, copy_records, rows_of_group}
 use Rattle.store_format.specs.Order.{IsChangeLog}
-use Rattle.store_format.specs.Places.{group_place, is_next_row, next_place, taken}
+use Rattle.store_format.specs.Places.{group_place, is_in_group, is_next_row, may_have_rows, next_place, rows_at, taken}
 use Rattle.store_format.proofs.Machine.{Reading, reading, run, runs_on, runs_from, run_steps, runs_as_log, next-start, IsChange}
 use Rattle.store_format.proofs.LogLemmas.{IsChangeLog-nil, IsChangeLog-empty, IsChangeLog-uncons, keeps, runs_log, log_runs}
 use Rattle.store_format.proofs.CopyLemmas.{Nothing}
@@ -69,43 +70,114 @@ to_stand rows size count are = record {
   ends = λ row is. let e : IsPlaced size (0 + size.jobs) row = to_places size 0 rows are size.jobs row is in table_row size row (omega (arith, e.0)) e.1;
 }
 
+from_numbers : (rows : List JobRow) (size : TableSize) → AreNumbered rows size.jobs → AreFrom size 0 rows
+from_numbers rows size are =
+    from_places size 0 rows (λ k row is.
+    let number : row.job ≡ k = are.in_order k row is in
+    let within : k < length rows = slice_get_within rows k row is in
+    (omega (arith, number), fits_where size row (λ last. absurd (omega (arith, last, number, within, are.count)))))
+
+to_numbers : (rows : List JobRow) (size : TableSize) → length rows ≡ size.jobs → AreFrom size 0 rows → AreNumbered rows size.jobs
+to_numbers rows size count are =
+    record { count = count; in_order = λ k row is. let e : IsPlaced size (0 + k) row = to_places size 0 rows are k row is in omega (arith, e.0) }
+
+-- ---- the rows of a group, in either format
+
+from_group : (rows : List JobRow) (size : TableSize) → GroupStands size rows → AreFrom size 0 rows
+from_group rows size (inl stand) = from_stand rows size stand
+from_group rows size (inr are) = from_numbers rows size are
+
+group_may : (rows : List JobRow) (size : TableSize) → GroupStands size rows → may_have_rows size (length rows) ≡ true
+group_may rows size (inl stand) =
+    ap (λ (b : Bool). b || eqb (length rows) size.jobs) (eq-eqb (length rows) (row_count size) stand.numbered.count)
+group_may rows size (inr are) =
+    ap (λ (b : Bool). eqb (length rows) (row_count size) || b) (eq-eqb (length rows) size.jobs are.count) ∙ or-true (eqb (length rows) (row_count size))
+
+-- how many rows a group may have
+pub count_may : (size : TableSize) (count : ℕ) → may_have_rows size count ≡ true → (count ≡ row_count size) ⊎ (count ≡ size.jobs)
+count_may size count may = elim (cases_eq count (row_count size)) [
+  | inl same ↦ inl same
+  | inr other ↦ inr (eqb-true count size.jobs (sym (ap (λ (b : Bool). b || eqb count size.jobs) (ne_eqb count (row_count size) other)) ∙ may))
+]
+
+to_group : (rows : List JobRow) (size : TableSize) (count : ℕ) → may_have_rows size count ≡ true → length rows ≡ count → AreFrom size 0 rows → GroupStands size rows
+to_group rows size count may same are = elim (count_may size count may) [
+  | inl table ↦ inl (to_stand rows size (omega (arith, same, table)) are)
+  | inr jobs ↦ inr (to_numbers rows size (omega (arith, same, jobs)) are)
+]
+
+-- a fresh row may be the table's own, of version 0
+pub fits_fresh : (size : TableSize) (job : ℕ) → fits_table size (fresh_row job) ≡ true
+fits_fresh size job =
+    fits_where size (fresh_row job) (λ last. and_from (leb 0 size.last_version) true (le-leb 0 size.last_version (omega arith)) refl)
+
+from_append : (size : TableSize) (job : ℕ) (rows others : List JobRow) → AreFrom size job rows → AreFrom size (job + length rows) others → AreFrom size job (rows ++ others)
+from_append size job [] others are more =
+    let same : job + 0 ≡ job = omega arith in
+    subst (λ (n : ℕ). AreFrom size n others) same more
+from_append size job (row ∷ rows) others are more =
+    let same : job + suc (length rows) ≡ job + 1 + length rows = omega arith in
+    (are.0, (are.1.0, from_append size (job + 1) rows others are.1.1 (subst (λ (n : ℕ). AreFrom size n others) same more)))
+
+-- the rows of a table stand for themselves
+pub table_rows : (size : TableSize) (rows : List JobRow) → RowsStand rows size → rows_of_group size rows ≡ rows
+table_rows size rows stand =
+    let more : length rows ≡ size.jobs → ⊥ = λ same. omega (arith, same, stand.numbered.count) in
+    ap (λ (b : Bool). if b then rows ++ fresh_row size.jobs ∷ [] else rows) (ne_eqb (length rows) size.jobs more)
+
+-- the rows that a group stands for are those of the table
+pub group_rows_stand : (size : TableSize) (rows : List JobRow) → GroupStands size rows → RowsStand (rows_of_group size rows) size
+group_rows_stand size rows (inl stand) = subst (λ (all : List JobRow). RowsStand all size) (sym (table_rows size rows stand)) stand
+group_rows_stand size rows (inr are) =
+    let last : List JobRow = fresh_row size.jobs ∷ [] in
+    let whole : length (rows ++ last) ≡ length rows + 1 = length-append rows last in
+    let count : length (rows ++ last) ≡ row_count size = omega (arith, whole, are.count) in
+    let table : AreFrom size (0 + length rows) last = (omega (arith, are.count), (fits_fresh size size.jobs, tt)) in
+    subst (λ (all : List JobRow). RowsStand all size) (sym (ap (λ (b : Bool). if b then rows ++ last else rows) (eq-eqb (length rows) size.jobs are.count)))
+    (to_stand (rows ++ last) size count (from_append size 0 rows last (from_numbers rows size are) table))
+
 -- ---- a group is read
 
-pub group_done : (size : TableSize) (count : ℕ) → count ≡ row_count size → group_place (row_count size) count ≡ CopyStart
-group_done size count same = ap (λ (b : Bool). if b then CopyStart else Rows) (eq-eqb count (row_count size) same)
+pub group_done : (total count : ℕ) → count ≡ total → group_place total count ≡ CopyStart
+group_done total count same = ap (λ (b : Bool). if b then CopyStart else Rows total) (eq-eqb count total same)
 
-pub group_open : (size : TableSize) (count : ℕ) → (count ≡ row_count size → ⊥) → group_place (row_count size) count ≡ Rows
-group_open size count other = ap (λ (b : Bool). if b then CopyStart else Rows) (ne_eqb count (row_count size) other)
+pub group_open : (total count : ℕ) → (count ≡ total → ⊥) → group_place total count ≡ Rows total
+group_open total count other = ap (λ (b : Bool). if b then CopyStart else Rows total) (ne_eqb count total other)
 
-row_place : (size : TableSize) (kept : Durable) (slot : ℕ) (row : JobRow) → slot ≡ kept.base → row.job ≡ length kept.rows → fits_table size row ≡ true → next_place size Rows kept (Row slot row) ≡ Some (group_place (row_count size) (length kept.rows + 1))
-row_place size kept slot row at job fits =
-    ap (λ (b : Bool). if b then Some (group_place (row_count size) (length kept.rows + 1)) else None) (and_from _ _ (eq-eqb slot kept.base at) (and_from _ _ (eq-eqb row.job (length kept.rows) job) fits))
+row_place : (size : TableSize) (total : ℕ) (kept : Durable) (slot : ℕ) (row : JobRow) → slot ≡ kept.base → row.job ≡ length kept.rows → fits_table size row ≡ true → next_place size (Rows total) kept (Row slot row) ≡ Some (group_place total (length kept.rows + 1))
+row_place size total kept slot row at job fits =
+    ap (λ (b : Bool). if b then Some (group_place total (length kept.rows + 1)) else None) (and_from _ _ (eq-eqb slot kept.base at) (and_from _ _ (eq-eqb row.job (length kept.rows) job) fits))
 
-pub rows_run : (size : TableSize) (slot : ℕ) (rows front : List JobRow) → length front + length rows ≡ row_count size → AreFrom size (length front) rows
-    → run size (reading (group_place (row_count size) (length front)) (with_rows slot front)) (map (λ (row : JobRow). Row slot row) rows) ≡ Some (reading CopyStart (with_rows slot (front ++ rows)))
-rows_run size slot [] front count are =
-    let done : length front ≡ row_count size = omega (arith, count) in
-    ap (λ (p : Place). Some (reading p (with_rows slot front))) (group_done size (length front) done)
-    ∙ ap (λ (rows : List JobRow). Some (reading CopyStart (with_rows slot rows))) (sym (append-nil front))
-rows_run size slot (row ∷ rows) front count are =
-    let more : length (front ++ row ∷ []) ≡ length front + 1 = length-append front (row ∷ []) in
-    let at : next_place size Rows (with_rows slot front) (Row slot row) ≡ Some (group_place (row_count size) (length front + 1)) = row_place size (with_rows slot front) slot row refl are.0 are.1.0 in
-    ap (λ (p : Place). run size (reading p (with_rows slot front)) (Row slot row ∷ map (λ (r : JobRow). Row slot r) rows)) (group_open size (length front) (λ same. omega (arith, same, count)))
-    ∙ runs_from size Rows (group_place (row_count size) (length front + 1)) (with_rows slot front) (Row slot row) (map (λ (r : JobRow). Row slot r) rows) at
-    ∙ ap (λ (n : ℕ). run size (reading (group_place (row_count size) n) (with_rows slot (front ++ row ∷ []))) (map (λ (r : JobRow). Row slot r) rows)) (sym more)
-    ∙ rows_run size slot rows (front ++ row ∷ []) (omega (arith, count, more)) (subst (λ (n : ℕ). AreFrom size n rows) (sym more) are.1.1)
-    ∙ ap (λ (all : List JobRow). Some (reading CopyStart (with_rows slot all))) (append_assoc front (row ∷ []) rows)
+-- a reader at a place in a group or behind it
+abbrev pub at_rows : TableSize → ℕ → Place → List JobRow → Reading
+at_rows size slot place rows = reading place (with_rows slot (rows_at size place rows))
 
-base_place : (size : TableSize) (slot count : ℕ) → count ≡ row_count size → next_place size Start (fresh_kept size) (Base slot count) ≡ Some (group_place (row_count size) 0)
-base_place size slot count same = ap (λ (b : Bool). if b then Some (group_place (row_count size) 0) else None) (eq-eqb count (row_count size) same)
+pub rows_run : (size : TableSize) (slot total : ℕ) (rows front : List JobRow) → length front + length rows ≡ total → AreFrom size (length front) rows
+    → run size (at_rows size slot (group_place total (length front)) front) (map (λ (row : JobRow). Row slot row) rows) ≡ Some (reading CopyStart (with_rows slot (rows_of_group size (front ++ rows))))
+rows_run size slot total [] front count are =
+    let done : length front ≡ total = omega (arith, count) in
+    ap (λ (p : Place). Some (at_rows size slot p front)) (group_done total (length front) done)
+    ∙ ap (λ (all : List JobRow). Some (at_rows size slot CopyStart all)) (sym (append-nil front))
+rows_run size slot total (row ∷ rows) front count are =
+    let longer : List JobRow = front ++ row ∷ [] in
+    let more : length longer ≡ length front + 1 = length-append front (row ∷ []) in
+    let at : next_place size (Rows total) (with_rows slot front) (Row slot row) ≡ Some (group_place total (length front + 1)) = row_place size total (with_rows slot front) slot row refl are.0 are.1.0 in
+    ap (λ (p : Place). run size (at_rows size slot p front) (Row slot row ∷ map (λ (r : JobRow). Row slot r) rows)) (group_open total (length front) (λ same. omega (arith, same, count)))
+    ∙ runs_from size (Rows total) (group_place total (length front + 1)) (with_rows slot front) (Row slot row) (map (λ (r : JobRow). Row slot r) rows) at
+    ∙ ap (λ (n : ℕ). run size (at_rows size slot (group_place total n) longer) (map (λ (r : JobRow). Row slot r) rows)) (sym more)
+    ∙ rows_run size slot total rows longer (omega (arith, count, more)) (subst (λ (n : ℕ). AreFrom size n rows) (sym more) are.1.1)
+    ∙ ap (λ (all : List JobRow). Some (at_rows size slot CopyStart all)) (append_assoc front (row ∷ []) rows)
+
+base_place : (size : TableSize) (slot count : ℕ) → may_have_rows size count ≡ true → next_place size Start (fresh_kept size) (Base slot count) ≡ Some (group_place count 0)
+base_place size slot count may = ap (λ (b : Bool). if b then Some (group_place count 0) else None) may
 
 abbrev pub first : TableSize → Reading
 first size = reading Start (fresh_kept size)
 
-pub group_runs : (size : TableSize) (slot : ℕ) (rows : List JobRow) → RowsStand rows size → run size (first size) (group_of slot rows) ≡ Some (reading CopyStart (with_rows slot rows))
+pub group_runs : (size : TableSize) (slot : ℕ) (rows : List JobRow) → GroupStands size rows → run size (first size) (group_of slot rows) ≡ Some (reading CopyStart (with_rows slot (rows_of_group size rows)))
 group_runs size slot rows stand =
-    runs_from size Start (group_place (row_count size) 0) (fresh_kept size) (Base slot (length rows)) (map (λ (row : JobRow). Row slot row) rows) (base_place size slot (length rows) stand.numbered.count)
-    ∙ rows_run size slot rows [] (omega (arith, stand.numbered.count)) (from_stand rows size stand)
+    runs_from size Start (group_place (length rows) 0) (fresh_kept size) (Base slot (length rows)) (map (λ (row : JobRow). Row slot row) rows) (base_place size slot (length rows) (group_may rows size stand))
+    ∙ rows_run size slot (length rows) rows [] (omega arith) (from_group rows size stand)
 
 -- ---- a state is read
 
@@ -119,56 +191,56 @@ start_as_log size kept item items change = runs_as_log size Start kept item item
 
 log_from_start : (size : TableSize) (items : List Record) (kept : Durable) → IsChangeLog size (fresh_kept size) items kept → Reads size (first size) items kept
 log_from_start size [] kept log =
-    record { place = Start; runs = ap (λ (k : Durable). Some (reading Start k)) (sym (IsChangeLog-empty size (fresh_kept size) kept log)); not_rows = λ same. cc same }
+    record { place = Start; runs = ap (λ (k : Durable). Some (reading Start k)) (sym (IsChangeLog-empty size (fresh_kept size) kept log)); not_rows = false≢true }
 log_from_start size (item ∷ items) kept log =
     record {
       place = Log;
       runs = start_as_log size (fresh_kept size) item items (change_not size (fresh_kept size) kept item items log) ∙ log_runs size (fresh_kept size) kept (item ∷ items) log;
-      not_rows = λ same. cc same;
+      not_rows = false≢true;
     }
 
 -- what records stand for is read
 pub Stands-reads : (size : TableSize) (items : List Record) (kept : Durable) → Stands size items kept → Reads size (first size) items kept
 Stands-reads size items kept (inl log) = log_from_start size items kept log
 Stands-reads size items kept (inr base) =
-    let copied = copy_reads size base.slot base.rows base.copy base.promised base.log kept base.is_copy base.longest base.greatest base.is_log in
+    let copied = copy_reads size base.slot (rows_of_group size base.rows) base.copy base.promised base.log kept base.is_copy base.longest base.greatest base.is_log in
     record {
       place = copied.place;
       runs = ap (run size (first size)) base.parts
-          ∙ runs_on size (first size) (reading CopyStart (with_rows base.slot base.rows)) (reading copied.place kept) (group_of base.slot base.rows) (copy_records base.copy ++ base.log)
+          ∙ runs_on size (first size) (reading CopyStart (with_rows base.slot (rows_of_group size base.rows))) (reading copied.place kept) (group_of base.slot base.rows) (copy_records base.copy ++ base.log)
           (group_runs size base.slot base.rows base.rows_stand) copied.runs;
       not_rows = copied.not_rows;
     }
 
 -- ---- what is read stands
 
--- the rest of a group, and what is behind it
-pub record GroupThen (size : TableSize) (slot : ℕ) (front : List JobRow) (items : List Record) (last : Reading) : Type 0 where
+-- the rest of a group, which has so many rows in all, and what is behind it
+pub record GroupThen (size : TableSize) (slot total : ℕ) (front : List JobRow) (items : List Record) (last : Reading) : Type 0 where
   pub rows : List JobRow
   pub rest : List Record
   pub parts : items ≡ map (λ (row : JobRow). Row slot row) rows ++ rest
-  pub count : length front + length rows ≡ row_count size
+  pub count : length front + length rows ≡ total
   pub are : AreFrom size (length front) rows
-  pub runs : run size (reading CopyStart (with_rows slot (front ++ rows))) rest ≡ Some last
+  pub runs : run size (reading CopyStart (with_rows slot (rows_of_group size (front ++ rows)))) rest ≡ Some last
 
-row_kept : (size : TableSize) (kept : Durable) (slot : ℕ) (row : JobRow) (next : Place) (test : Bool) → (if test then Some (group_place (row_count size) (length kept.rows + 1)) else None) ≡ Some next → (test ≡ true) × (group_place (row_count size) (length kept.rows + 1) ≡ next)
-row_kept size kept slot row next true at = (refl, same_Some (group_place (row_count size) (length kept.rows + 1)) next at)
-row_kept size kept slot row next false at = absurd (none-some next at)
+row_kept : (kept : Durable) (total : ℕ) (next : Place) (test : Bool) → (if test then Some (group_place total (length kept.rows + 1)) else None) ≡ Some next → (test ≡ true) × (group_place total (length kept.rows + 1) ≡ next)
+row_kept kept total next true at = (refl, same_Some (group_place total (length kept.rows + 1)) next at)
+row_kept kept total next false at = absurd (none-some next at)
 
-pub record RowNext (size : TableSize) (kept : Durable) (item : Record) (next : Place) : Type 0 where
+pub record RowNext (size : TableSize) (total : ℕ) (kept : Durable) (item : Record) (next : Place) : Type 0 where
   pub row : JobRow
   pub is : item ≡ Row kept.base row
   pub job : row.job ≡ length kept.rows
   pub fits : fits_table size row ≡ true
-  pub place : group_place (row_count size) (length kept.rows + 1) ≡ next
+  pub place : group_place total (length kept.rows + 1) ≡ next
 
-pub row_next : (size : TableSize) (kept : Durable) (item : Record) (next : Place) → next_place size Rows kept item ≡ Some next → RowNext size kept item next
-row_next size kept (Tried ballot) next at = absurd (none-some next at)
-row_next size kept (Promised ballot) next at = absurd (none-some next at)
-row_next size kept (Voted vote) next at = absurd (none-some next at)
-row_next size kept (Base slot count) next at = absurd (none-some next at)
-row_next size kept (Row slot row) next at =
-    let parts = row_kept size kept slot row next (is_next_row size kept slot row) at in
+pub row_next : (size : TableSize) (total : ℕ) (kept : Durable) (item : Record) (next : Place) → next_place size (Rows total) kept item ≡ Some next → RowNext size total kept item next
+row_next size total kept (Tried ballot) next at = absurd (none-some next at)
+row_next size total kept (Promised ballot) next at = absurd (none-some next at)
+row_next size total kept (Voted vote) next at = absurd (none-some next at)
+row_next size total kept (Base slot count) next at = absurd (none-some next at)
+row_next size total kept (Row slot row) next at =
+    let parts = row_kept kept total next (is_next_row size kept slot row) at in
     let both = and_parts (eqb slot kept.base) (eqb row.job (length kept.rows) && fits_table size row) parts.0 in
     let number = and_parts (eqb row.job (length kept.rows)) (fits_table size row) both.1 in
     record {
@@ -179,22 +251,18 @@ row_next size kept (Row slot row) next at =
       place = parts.1;
     }
 
--- a group that is whole
-group_whole : (size : TableSize) (slot : ℕ) (items : List Record) (front : List JobRow) (last : Reading) → length front ≡ row_count size → run size (reading (group_place (row_count size) (length front)) (with_rows slot front)) items ≡ Some last → GroupThen size slot front items last
-group_whole size slot items front last same e =
-    record {
-      rows = [];
-      rest = items;
-      parts = refl;
-      count = omega (arith, same);
-      are = tt;
-      runs = ap (λ (rows : List JobRow). run size (reading CopyStart (with_rows slot rows)) items) (append-nil front)
-          ∙ ap (λ (p : Place). run size (reading p (with_rows slot front)) items) (sym (group_done size (length front) same)) ∙ e;
-    }
+-- the run behind a row, from the place that it leads to
+pub row_rest : (size : TableSize) (slot total : ℕ) (front : List JobRow) (item : Record) (items : List Record) (last : Reading) (next place : Place) → (now : RowNext size total (with_rows slot front) item next) → group_place total (length front + 1) ≡ place
+    → run size (reading next (taken size next item (with_rows slot front))) items ≡ Some last
+    → run size (reading place (with_rows slot (rows_at size place (front ++ now.row ∷ [])))) items ≡ Some last
+row_rest size slot total front item items last next place now at rest =
+    ap (λ (p : Place). run size (reading p (taken size p (Row slot now.row) (with_rows slot front))) items) (sym at ∙ now.place)
+    ∙ ap (λ (i : Record). run size (reading next (taken size next i (with_rows slot front))) items) (sym now.is)
+    ∙ rest
 
 -- one row before the others
-row_before : (size : TableSize) (slot : ℕ) (item : Record) (items : List Record) (front : List JobRow) (row : JobRow) (last : Reading) → item ≡ Row slot row → row.job ≡ length front → fits_table size row ≡ true → GroupThen size slot (front ++ row ∷ []) items last → GroupThen size slot front (item ∷ items) last
-row_before size slot item items front row last is job fits others =
+row_before : (size : TableSize) (slot total : ℕ) (item : Record) (items : List Record) (front : List JobRow) (row : JobRow) (last : Reading) → item ≡ Row slot row → row.job ≡ length front → fits_table size row ≡ true → GroupThen size slot total (front ++ row ∷ []) items last → GroupThen size slot total front (item ∷ items) last
+row_before size slot total item items front row last is job fits others =
     let more : length (front ++ row ∷ []) ≡ length front + 1 = length-append front (row ∷ []) in
     record {
       rows = row ∷ others.rows;
@@ -202,51 +270,67 @@ row_before size slot item items front row last is job fits others =
       parts = ap (λ (i : Record). i ∷ items) is ∙ ap (λ (behind : List Record). Row slot row ∷ behind) others.parts;
       count = omega (arith, others.count, more);
       are = (job, (fits, subst (λ (n : ℕ). AreFrom size n others.rows) more others.are));
-      runs = ap (λ (rows : List JobRow). run size (reading CopyStart (with_rows slot rows)) others.rest) (sym (append_assoc front (row ∷ []) others.rows)) ∙ others.runs;
+      runs = ap (λ (rows : List JobRow). run size (reading CopyStart (with_rows slot (rows_of_group size rows))) others.rest) (sym (append_assoc front (row ∷ []) others.rows)) ∙ others.runs;
     }
 
-runs_open : (size : TableSize) (slot : ℕ) (items : List Record) (front : List JobRow) (last : Reading) → length front ≤ row_count size → (length front ≡ row_count size → ⊥) → (last.place ≡ Rows → ⊥) → run size (reading Rows (with_rows slot front)) items ≡ Some last → GroupThen size slot front items last
-runs_open size slot [] front last few other not_rows e =
-    let same : reading Rows (with_rows slot front) ≡ last = same_Some (reading Rows (with_rows slot front)) last e in
-    absurd (not_rows (ap (λ (s : Reading). s.place) (sym same)))
-runs_open size slot (item ∷ items) front last few other not_rows e =
-    let parts = run_steps size Rows (with_rows slot front) item items last e in
-    let now = row_next size (with_rows slot front) item parts.next parts.at in
+pub runs_rows : (size : TableSize) (slot total : ℕ) (items : List Record) (front : List JobRow) (last : Reading) → length front < total → (is_in_group last.place ≡ true → ⊥) → run size (reading (Rows total) (with_rows slot front)) items ≡ Some last → GroupThen size slot total front items last
+runs_rows size slot total [] front last few not_rows e =
+    let same : reading (Rows total) (with_rows slot front) ≡ last = same_Some (reading (Rows total) (with_rows slot front)) last e in
+    absurd (not_rows (ap (λ (s : Reading). is_in_group s.place) (sym same)))
+runs_rows size slot total (item ∷ items) front last few not_rows e =
+    let parts = run_steps size (Rows total) (with_rows slot front) item items last e in
+    let now = row_next size total (with_rows slot front) item parts.next parts.at in
     let longer : List JobRow = front ++ now.row ∷ [] in
     let more : length longer ≡ length front + 1 = length-append front (now.row ∷ []) in
-    let short : length longer ≤ row_count size = omega (arith, more, few, other) in
-    let rest : run size (reading (group_place (row_count size) (length longer)) (with_rows slot longer)) items ≡ Some last =
-    ap (λ (n : ℕ). run size (reading (group_place (row_count size) n) (with_rows slot longer)) items) more
-    ∙ ap (λ (p : Place). run size (reading p (with_rows slot longer)) items) now.place
-    ∙ ap (λ (i : Record). run size (reading parts.next (taken i (with_rows slot front))) items) (sym now.is)
-    ∙ parts.rest in
-    row_before size slot item items front now.row last now.is now.job now.fits
-    (elim (cases_eq (length longer) (row_count size)) [
-      | inl same ↦ group_whole size slot items longer last same rest
-      | inr apart ↦ runs_open size slot items longer last short apart not_rows (ap (λ (p : Place). run size (reading p (with_rows slot longer)) items) (sym (group_open size (length longer) apart)) ∙ rest)
-    ])
+    elim (cases_eq (length front + 1) total) [
+      | inl same ↦ record {
+        rows = now.row ∷ [];
+        rest = items;
+        parts = ap (λ (i : Record). i ∷ items) now.is;
+        count = omega (arith, same);
+        are = (now.job, (now.fits, tt));
+        runs = row_rest size slot total front item items last parts.next CopyStart now (group_done total (length front + 1) same) parts.rest;
+      }
+      | inr apart ↦
+          row_before size slot total item items front now.row last now.is now.job now.fits
+          (runs_rows size slot total items longer last (omega (arith, more, few, apart)) not_rows (row_rest size slot total front item items last parts.next (Rows total) now (group_open total (length front + 1) apart) parts.rest))
+    ]
 
-pub runs_rows : (size : TableSize) (slot : ℕ) (items : List Record) (front : List JobRow) (last : Reading) → length front ≤ row_count size → (last.place ≡ Rows → ⊥) → run size (reading (group_place (row_count size) (length front)) (with_rows slot front)) items ≡ Some last → GroupThen size slot front items last
-runs_rows size slot items front last few not_rows e = elim (cases_eq (length front) (row_count size)) [
-  | inl same ↦ group_whole size slot items front last same e
-  | inr other ↦ runs_open size slot items front last few other not_rows (ap (λ (p : Place). run size (reading p (with_rows slot front)) items) (sym (group_open size (length front) other)) ∙ e)
-]
-
-pub base_kept : (size : TableSize) (count : ℕ) (next : Place) (test : Bool) → (if test then Some (group_place (row_count size) 0) else None) ≡ Some next → (test ≡ true) × (group_place (row_count size) 0 ≡ next)
-base_kept size count next true at = (refl, same_Some (group_place (row_count size) 0) next at)
+pub base_kept : (size : TableSize) (count : ℕ) (next : Place) (test : Bool) → (if test then Some (group_place count 0) else None) ≡ Some next → (test ≡ true) × (group_place count 0 ≡ next)
+base_kept size count next true at = (refl, same_Some (group_place count 0) next at)
 base_kept size count next false at = absurd (none-some next at)
 
+-- the run behind a base, from the place that it leads to
+pub base_rest : (size : TableSize) (slot count : ℕ) (items : List Record) (last : Reading) (next place : Place) → group_place count 0 ≡ next → group_place count 0 ≡ place
+    → run size (reading next (taken size next (Base slot count) (fresh_kept size))) items ≡ Some last
+    → run size (reading place (with_rows slot (rows_at size place []))) items ≡ Some last
+base_rest size slot count items last next place is at rest =
+    ap (λ (p : Place). run size (reading p (taken size p (Base slot count) (fresh_kept size))) items) (sym at ∙ is) ∙ rest
+
+-- the rows behind a base
+group_behind : (size : TableSize) (slot count : ℕ) (items : List Record) (last : Reading) (next : Place) → (is_in_group last.place ≡ true → ⊥) → group_place count 0 ≡ next
+    → run size (reading next (taken size next (Base slot count) (fresh_kept size))) items ≡ Some last → GroupThen size slot count [] items last
+group_behind size slot count items last next not_rows is rest = elim (cases_eq 0 count) [
+  | inl same ↦ record {
+    rows = [];
+    rest = items;
+    parts = refl;
+    count = omega (arith, same);
+    are = tt;
+    runs = base_rest size slot count items last next CopyStart is (group_done count 0 same) rest;
+  }
+  | inr other ↦
+      runs_rows size slot count items [] last (omega (arith, other)) not_rows (base_rest size slot count items last next (Rows count) is (group_open count 0 other) rest)
+]
+
 -- from the group of a base on
-stands_from_base : (size : TableSize) (slot count : ℕ) (items : List Record) (last : Reading) → (last.place ≡ Rows → ⊥) → run size (first size) (Base slot count ∷ items) ≡ Some last → StandsFromBase size (Base slot count ∷ items) last.kept
+stands_from_base : (size : TableSize) (slot count : ℕ) (items : List Record) (last : Reading) → (is_in_group last.place ≡ true → ⊥) → run size (first size) (Base slot count ∷ items) ≡ Some last → StandsFromBase size (Base slot count ∷ items) last.kept
 stands_from_base size slot count items last not_rows e =
     let parts = run_steps size Start (fresh_kept size) (Base slot count) items last e in
-    let now = base_kept size count parts.next (eqb count (row_count size)) parts.at in
-    let rest : run size (reading (group_place (row_count size) 0) (with_rows slot [])) items ≡ Some last =
-    ap (λ (p : Place). run size (reading p (with_rows slot [])) items) now.1 ∙ parts.rest in
-    let group = runs_rows size slot items [] last (omega arith) not_rows rest in
-    let copied = runs_copy size slot group.rows group.rest Nothing None last (nothing_copied slot) refl group.runs in
-    let counted : count ≡ row_count size = eqb-true count (row_count size) now.0 in
-    let as_many : count ≡ length group.rows = omega (arith, counted, group.count) in
+    let now = base_kept size count parts.next (may_have_rows size count) parts.at in
+    let group = group_behind size slot count items last parts.next not_rows now.1 parts.rest in
+    let copied = runs_copy size slot (rows_of_group size group.rows) group.rest Nothing None last (nothing_copied slot) refl group.runs in
+    let as_many : count ≡ length group.rows = omega (arith, group.count) in
     record {
       slot = slot;
       rows = group.rows;
@@ -255,7 +339,7 @@ stands_from_base size slot count items last not_rows e =
       log = copied.log;
       parts = ap (λ (n : ℕ). Base slot n ∷ items) as_many
           ∙ ap (λ (others : List Record). Base slot (length group.rows) ∷ others) (group.parts ∙ ap (λ (behind : List Record). map (λ (row : JobRow). Row slot row) group.rows ++ behind) copied.parts);
-      rows_stand = to_stand group.rows size (omega (arith, group.count)) group.are;
+      rows_stand = to_group group.rows size count now.0 (sym as_many) group.are;
       is_copy = copied.is_copy;
       longest = copied.longest;
       greatest = copied.greatest;
@@ -267,7 +351,7 @@ stands_as_log size item items last change e =
     inl (runs_log size (fresh_kept size) (item ∷ items) last (sym (start_as_log size (fresh_kept size) item items change) ∙ e)).1
 
 -- what is read, and not in the middle of a group, stands
-pub runs-Stands : (size : TableSize) (items : List Record) (last : Reading) → (last.place ≡ Rows → ⊥) → run size (first size) items ≡ Some last → Stands size items last.kept
+pub runs-Stands : (size : TableSize) (items : List Record) (last : Reading) → (is_in_group last.place ≡ true → ⊥) → run size (first size) items ≡ Some last → Stands size items last.kept
 runs-Stands size [] last not_rows e =
     let same : first size ≡ last = same_Some (first size) last e in
     subst (λ (s : Reading). Stands size [] s.kept) same (inl (IsChangeLog-nil size (fresh_kept size)))

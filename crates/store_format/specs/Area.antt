@@ -1,17 +1,17 @@
 -- What the records of an area stand for, and the first of them that is at fault. Source: docs/WIRE.md.
-use Rattle.std.specs.Prelude.{◌≡◌, ◌⊎◌, ℕ, ◌+◌, ◌<◌, ◌≤◌, nat_lt, if◌then◌else◌, Option, None, Some, List, [], ◌∷◌, ◌++◌, length, map, take, All, Contains, IfSome}
+use Rattle.std.specs.Prelude.{◌≡◌, ◌⊎◌, ℕ, ◌+◌, ◌<◌, ◌≤◌, ◌==◌, nat_lt, if◌then◌else◌, Option, None, Some, List, [], ◌∷◌, ◌++◌, length, map, take, All, Contains, IfSome}
 use Rattle.std.specs.List.{filter_map}
 use Rattle.paxos_base.specs.declared.rows.TableSize.{TableSize}
 use Rattle.paxos_base.specs.declared.durable.Durable.{Durable}
 use Rattle.paxos_base.specs.declared.entry.Vote.{Vote}
 use Rattle.paxos_base.specs.declared.rows.JobRow.{JobRow}
-use Rattle.paxos_base.specs.Rows.{RowsStand, fresh_rows, row_count}
+use Rattle.paxos_base.specs.Rows.{AreNumbered, RowsStand, fresh_row, fresh_rows, row_count}
 use Rattle.paxos_base.specs.Vote.{SlotsRise, votes_from}
 use Rattle.paxos_base.specs.Ballot.{IsAbove}
 use Rattle.store_format.specs.declared.body.Record.{Record}
 use Rattle.store_format.specs.declared.body.Record.TheVariants.{Tried, Promised, Voted, Base, Row}
 use Rattle.store_format.specs.Order.{IsChangeLog, own_round}
-use Rattle.store_format.specs.Records.{AreRecords, record_ballot, own_ballot}
+use Rattle.store_format.specs.Records.{AreRecords, IsRecord, record_ballot, own_ballot}
 
 -- what a replica keeps at first: nothing was tried, promised or voted for, and each row is fresh
 abbrev pub fresh_kept : TableSize → Durable
@@ -20,6 +20,15 @@ fresh_kept size = record { tried = 0; promised = None; votes = []; base = 0; row
 -- the group of a base: its slot and how many rows follow, and then the rows, each with that slot
 abbrev pub group_of : ℕ → List JobRow → List Record
 group_of slot rows = Base slot (length rows) ∷ map (λ row. Row slot row) rows
+
+-- The rows of a group are those of a table of that size, in format 2, or those of its jobs alone, one for each in the order of
+-- their numbers, in format 1.
+abbrev pub GroupStands : TableSize → List JobRow → Type 0
+GroupStands size rows = RowsStand rows size ⊎ AreNumbered rows size.jobs
+
+-- the rows that those of a group stand for: behind those of the jobs alone the table's own is added, with nothing in it
+abbrev pub rows_of_group : TableSize → List JobRow → List JobRow
+rows_of_group size rows = if length rows == size.jobs then rows ++ fresh_row size.jobs ∷ [] else rows
 
 -- a copy of what a replica kept beside the rows: its own ballot, a promise and its votes
 pub record Copy : Type 0 where
@@ -65,8 +74,8 @@ abbrev pub after_copy : ℕ → List JobRow → Copy → Option ℕ → Durable
 after_copy slot rows copy promised =
     record { tried = own_round copy.tried; promised = promised; votes = copy.votes; base = slot; rows = rows }
 
--- The records begin with the group of a base, which has the rows of a table of that size. After it stands a copy, the
--- longest there, after which the greatest ballot in it is promised; and after that a log.
+-- The records begin with the group of a base, whose rows stand in one of the two formats. After it stands a copy, the longest
+-- there, after which the greatest ballot in it is promised; and after that a log.
 pub record StandsFromBase (size : TableSize) (items : List Record) (kept : Durable) : Type 0 where
   pub slot : ℕ
   pub rows : List JobRow
@@ -74,11 +83,11 @@ pub record StandsFromBase (size : TableSize) (items : List Record) (kept : Durab
   pub promised : Option ℕ
   pub log : List Record
   pub parts : items ≡ group_of slot rows ++ (copy_records copy ++ log)
-  pub rows_stand : RowsStand rows size
+  pub rows_stand : GroupStands size rows
   pub is_copy : IsCopy slot copy
   pub longest : IsLongest slot copy (copy_records copy ++ log)
   pub greatest : IsGreatest promised (filter_map record_ballot (copy_records copy))
-  pub is_log : IsChangeLog size (after_copy slot rows copy promised) log kept
+  pub is_log : IsChangeLog size (after_copy slot (rows_of_group size rows) copy promised) log kept
 
 -- The records stand for what is kept, of a table of that size: they are a log from the fresh state on, or begin with the
 -- group of a base.
@@ -91,6 +100,11 @@ pub record StandFor (size : TableSize) (bodies : List (List ℕ)) (kept : Durabl
   pub are_records : AreRecords bodies items
   pub stands : Stands size items kept
   pub own_is : own ≡ own_ballot items
+
+-- the bodies begin with a base of format 1, whose group has a row for each job and none of the table's own
+abbrev pub BeginsInFormat1 : TableSize → List (List ℕ) → Type 0
+BeginsInFormat1 size [] = ⊥
+BeginsInFormat1 size (body ∷ bodies) = (slot : ℕ) × IsRecord body (Base slot size.jobs)
 
 -- some list of bodies that begins with these stands for a state
 pub record BodiesMayStand (size : TableSize) (bodies : List (List ℕ)) : Type 0 where

@@ -5,7 +5,7 @@ ghost use Rattle.paxos_base.specs.declared.durable.Delta.TheVariants.{Base};
 ghost use Rattle.paxos_base.specs.Durable.{after_delta};
 ghost use Rattle.paxos_base.specs.Rows.{OpenHaveCursors, RowsStand};
 ghost use Rattle.paxos_base.specs.Vote.{votes_from};
-ghost use Rattle.store_format.specs.Area.{StandFor, base_records, promise_above, group_of, tried_records, promised_records};
+ghost use Rattle.store_format.specs.Area.{BeginsInFormat1, StandFor, base_records, promise_above, group_of, tried_records, promised_records};
 ghost use Rattle.store_format.specs.Order.{IsKeptSound};
 ghost use Rattle.store_format.specs.Records.{record_bytes, AreRecords, RowHasCursor};
 ghost use Rattle.store_format.specs.Written.{AddsRecords};
@@ -94,6 +94,7 @@ pub fn write_base(
     ensures records { IfOk result (λ bodies. AreRecords bodies.items (base_records kept.now own slot rows.now)) }
     ensures stand { (size : TableSize) → IsKeptSound kept.now own → RowsStand rows.now size
         → IfOk result (λ bodies. StandFor size bodies.items (after_delta (Base slot rows.now) kept.now) own) }
+    ensures format { (size : TableSize) → RowsStand rows.now size → IfOk result (λ bodies. BeginsInFormat1 size bodies.items → ⊥) }
 {
     let mut bodies = Vec::new(alloc);
     put_group(slot, rows, &mut bodies)?;

@@ -7,9 +7,9 @@ ghost use Rattle.paxos_base.specs.declared.rows.JobRow.{JobRow};
 ghost use Rattle.paxos_base.specs.Durable.{after_delta};
 ghost use Rattle.paxos_base.specs.Rows.{RowsStand};
 ghost use Rattle.store_format.specs.declared.body.Record.{Record};
-ghost use Rattle.store_format.specs.Area.{Stands, StandFor, IsFirstRecordAtFault, fresh_kept, base_records};
+ghost use Rattle.store_format.specs.Area.{BeginsInFormat1, GroupStands, Stands, StandFor, IsFirstRecordAtFault, fresh_kept, base_records, rows_of_group};
 ghost use Rattle.store_format.specs.Order.{ChangeMayFollow, IsKeptSound, delta_record, own_after};
-ghost use Rattle.store_format.specs.Records.{IsRecord, own_ballot};
+ghost use Rattle.store_format.specs.Records.{AreRecords, IsRecord, own_ballot};
 
 /// A law, with nothing to run: the empty list stands for the fresh state.
 pub fn no_records_stand_for_the_fresh_state()
@@ -35,11 +35,20 @@ pub fn a_record_brings_its_change()
         → StandFor size (bodies ++ body ∷ []) (after_delta change kept) (own_after change own) }
 {}
 
-/// A law, with nothing to run: the records of a base stand for the state after it.
+/// A law, with nothing to run: the records of a base stand for the state after it, and are in format 2.
 pub fn the_records_of_a_base_stand()
-    ensures { (size : TableSize) (slot : ℕ) (rows : List JobRow) (kept : Durable) (own : Option ℕ)
+    ensures stand { (size : TableSize) (slot : ℕ) (rows : List JobRow) (kept : Durable) (own : Option ℕ)
         → IsKeptSound kept own → RowsStand rows size
         → Stands size (base_records kept own slot rows) (after_delta (Base slot rows) kept) }
+    ensures format { (size : TableSize) (bodies : List (List ℕ)) (slot : ℕ) (rows : List JobRow) (kept : Durable) (own : Option ℕ)
+        → RowsStand rows size → AreRecords bodies (base_records kept own slot rows) → BeginsInFormat1 size bodies → ⊥ }
+    // A base at the slot and with the rows that are kept brings the same state.
+    ensures same { (kept : Durable) (own : Option ℕ) → IsKeptSound kept own → after_delta (Base kept.base kept.rows) kept ≡ kept }
+{}
+
+/// A law, with nothing to run: the rows that a group stands for, in either format, are those of the table.
+pub fn the_rows_of_a_group_stand()
+    ensures { (size : TableSize) (rows : List JobRow) → GroupStands size rows → RowsStand (rows_of_group size rows) size }
 {}
 
 /// A law, with nothing to run: what records stand for is sound, and each change that may follow leaves it so.

@@ -18,10 +18,11 @@
 //! | 5 | `Row` | slot, tag, job, ballot = launched, old = voided, at = cursor, now = open_now, last |
 //!
 //! An area is a log of changes, `Tried`, `Promised` and `Voted`, from the fresh state on, or begins with the group of a
-//! `Base` and its rows, one for each job and the table's own behind them. Then the records directly after the group are a
-//! copy of what was kept beside the rows: the longest run there that is at most one `Tried`, at most one `Promised` above
-//! it, and `Voted` records at rising slots from the base on. After the copy the greatest ballot in it is promised, and the
-//! log goes on from there.
+//! `Base` and its rows. In format 2, in which bases are written, these are one for each job and the table's own behind
+//! them. In format 1 (`begins_in_format_1`) the table's own is lacking, and is added to what the records stand for, with
+//! nothing in it. Then the records directly after the group are a copy of what was kept beside the rows: the longest run
+//! there that is at most one `Tried`, at most one `Promised` above it, and `Voted` records at rising slots from the base
+//! on. After the copy the greatest ballot in it is promised, and the log goes on from there.
 #![tactic(auto)]
 
 mod base;
@@ -39,7 +40,7 @@ pub use fault::ReadFault;
 pub use laws::{
     a_record_brings_its_change, bodies_have_a_first_fault, no_records_stand_for_the_fresh_state,
     records_differ_in_their_bytes, records_stand_for_one_state, states_are_sound,
-    the_records_of_a_base_stand,
+    the_records_of_a_base_stand, the_rows_of_a_group_stand,
 };
 pub use order::{delta_record, may_follow};
-pub use reading::read_records;
+pub use reading::{begins_in_format_1, read_records};

@@ -1,9 +1,9 @@
 //! How far a reader has come in an area, and where the next record leads.
-ghost use Rattle.std.specs.Prelude.{◌≡◌, ◌↔◌, IsTrue};
+ghost use Rattle.std.specs.Prelude.{◌≡◌};
 ghost use Rattle.std.specs.Option.{option_or};
 ghost use Rattle.paxos_base.specs.declared.rows.TableSize.{TableSize};
 ghost use Rattle.paxos_base.specs.Vote.{SlotsRise};
-ghost use Rattle.store_format.specs.Places.{takes_own, takes_promise, takes_votes, is_behind, copy_place, log_place, next_place, group_place, is_next_row};
+ghost use Rattle.store_format.specs.Places.{takes_own, takes_promise, takes_votes, is_behind, copy_place, log_place, next_place, group_place, is_in_group, is_next_row, may_have_rows};
 
 use crate::body::Record;
 use crate::order::{is_above, keeps_order};
@@ -14,8 +14,8 @@ use paxos_base::{Durable, JobRow, TableSize, Vote, VoteList, place_of};
 pub(crate) enum Place {
     /// Before the first record.
     Start,
-    /// In the group of a base, of which there are rows to come.
-    Rows,
+    /// In the group of a base, which has so many rows in all, and some of them are to come.
+    Rows { total: u64 },
     /// Behind the group.
     CopyStart,
     /// In the copy, behind its Tried.
@@ -28,14 +28,21 @@ pub(crate) enum Place {
     Log,
 }
 
-// The place behind so many rows of a group.
-fn group_place(rows: u64, count: usize) -> Place
-    ensures { result ≡ group_place rows count }
+// The group of a base may have so many rows: those of the table, or in format 1 those of its jobs alone.
+fn may_have_rows(size: TableSize, count: u64) -> bool
+    ensures { result ≡ may_have_rows size count }
 {
-    if count as u64 == rows {
+    count == size.row_count() || count == u64::from(size.jobs)
+}
+
+// The place behind so many rows of a group, which has this many in all.
+fn group_place(total: u64, count: usize) -> Place
+    ensures { result ≡ group_place total count }
+{
+    if count as u64 == total {
         Place::CopyStart
     } else {
-        Place::Rows
+        Place::Rows { total }
     }
 }
 
@@ -56,12 +63,13 @@ fn is_behind(slot: u64, votes: &VoteList) -> bool
 impl Place {
     /// Whether rows of a group are to come.
     pub(crate) fn is_in_group(self) -> bool
-        ensures { IsTrue result ↔ (self ≡ Place.Rows) }
+        ensures { result ≡ is_in_group self }
     {
-        matches!(self, Place::Rows)
+        matches!(self, Place::Rows { .. })
     }
 
-    fn takes_own(self) -> bool
+    /// Whether this is the place directly behind a group, where the copy may begin with a Tried.
+    pub(crate) fn takes_own(self) -> bool
         ensures { result ≡ takes_own self }
     {
         matches!(self, Place::CopyStart)
@@ -76,7 +84,7 @@ impl Place {
     fn takes_votes(self) -> bool
         ensures { result ≡ takes_votes self }
     {
-        !matches!(self, Place::Start | Place::Rows | Place::Log)
+        !matches!(self, Place::Start | Place::Rows { .. } | Place::Log)
     }
 
     // The place in the copy behind the record, where the copy goes on with it.
@@ -112,14 +120,14 @@ impl Place {
         ensures { result ≡ next_place size self kept.now item.now }
     {
         match (self, *item) {
-            (Place::Start, Record::Base { count, .. }) if count == size.row_count() => {
-                Some(group_place(size.row_count(), 0))
+            (Place::Start, Record::Base { count, .. }) if may_have_rows(size, count) => {
+                Some(group_place(count, 0))
             }
-            (Place::Rows, Record::Row { slot, row }) if is_next_row(size, kept, slot, row) => {
-                let rows = kept.rows.items.len() + 1;
-                Some(group_place(size.row_count(), rows))
+            (Place::Rows { total }, Record::Row { slot, row })
+                if is_next_row(size, kept, slot, row) => {
+                Some(group_place(total, kept.rows.items.len() + 1))
             }
-            (Place::Start, Record::Base { .. }) | (Place::Rows, _) => None,
+            (Place::Start, Record::Base { .. }) | (Place::Rows { .. }, _) => None,
             _ => self.in_copy_or_log(kept, item),
         }
     }

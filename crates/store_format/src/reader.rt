@@ -7,7 +7,7 @@ ghost use Rattle.paxos_base.specs.Rows.{OpenHasCursor};
 ghost use Rattle.paxos_base.specs.Vote.{put_vote};
 ghost use Rattle.paxos_base.specs.Rows.{fresh_row};
 ghost use Rattle.store_format.specs.Area.{fresh_kept};
-ghost use Rattle.store_format.specs.Places.{taken};
+ghost use Rattle.store_format.specs.Places.{rows_at, taken};
 ghost use Rattle.store_format.specs.Records.{RowHasCursor, tried_in};
 
 use crate::body::Record;
@@ -41,6 +41,16 @@ fn add_row(rows: &mut RowList, row: JobRow) -> Result<(), OutOfMemory>
     Ok(())
 }
 
+// Adds the table's own row behind a group that has those of the jobs alone.
+fn end_group(rows: &mut RowList, size: TableSize, place: Place) -> Result<(), OutOfMemory>
+    ensures { OnOk result (rows.new ≡ rows_at size place rows.old) }
+{
+    if place.takes_own() && rows.items.len() == size.jobs as usize {
+        return add_row(rows, JobRow::fresh(size.jobs));
+    }
+    Ok(())
+}
+
 impl Reader {
     /// A reader before the first record.
     pub(crate) fn new(alloc: Global, size: TableSize) -> Result<Reader, OutOfMemory>
@@ -67,10 +77,15 @@ impl Reader {
 
     /// Takes a record, which leads to the place. The greatest ballot so far is promised: in a log each is as great as
     /// those before it, and a copy has the votes' ballots in any order.
-    pub(crate) fn take(&mut self, place: Place, item: &Record) -> Result<(), OutOfMemory>
+    pub(crate) fn take(
+        &mut self,
+        size: TableSize,
+        place: Place,
+        item: &Record,
+    ) -> Result<(), OutOfMemory>
         requires { RowHasCursor item.now }
         ensures place { OnOk result (self.new.place ≡ place) }
-        ensures kept { OnOk result (self.new.kept ≡ taken item.now self.old.kept) }
+        ensures kept { OnOk result (self.new.kept ≡ taken size place item.now self.old.kept) }
         ensures own { OnOk result (self.new.own ≡ option_or (tried_in item.now) self.old.own) }
     {
         self.place = place;
@@ -88,8 +103,12 @@ impl Reader {
             Record::Base { slot, .. } => {
                 self.kept.base = slot;
                 self.kept.rows.items.clear();
+                return end_group(&mut self.kept.rows, size, place);
             }
-            Record::Row { row, .. } => return add_row(&mut self.kept.rows, row),
+            Record::Row { row, .. } => {
+                add_row(&mut self.kept.rows, row)?;
+                return end_group(&mut self.kept.rows, size, place);
+            }
         }
         Ok(())
     }

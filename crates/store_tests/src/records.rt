@@ -5,7 +5,9 @@ use gate_file::Body56;
 use paxos_base::{Ballot, Durable, Entry, JobRow, PACKET_BYTES, RowList, TableSize, Vote};
 use std::alloc::{AllocError, Global};
 use std::test::Fail;
-use store_format::{ReadFault, Record, read_records, record_bytes, record_in, write_base};
+use store_format::{
+    ReadFault, Record, begins_in_format_1, read_records, record_bytes, record_in, write_base,
+};
 
 const SIZE: TableSize = TableSize {
     jobs: 2,
@@ -171,7 +173,7 @@ const AREAS: &[Area] = &[
         want: Err(2),
     },
     Area {
-        items: &[B(2), R(0), R(1)],
+        items: &[B(1), R(0)],
         want: Err(0),
     },
     Area {
@@ -193,6 +195,27 @@ const AREAS: &[Area] = &[
     Area {
         items: &[B(3), R(0), R(1), F(2)],
         want: Ok((0, 0, 0, 5)),
+    },
+    // the group in format 1, which ends with the row of the last job
+    Area {
+        items: &[B(2)],
+        want: Err(1),
+    },
+    Area {
+        items: &[B(2), R(0)],
+        want: Err(2),
+    },
+    Area {
+        items: &[B(2), R(0), R(1)],
+        want: Ok((0, 0, 0, 5)),
+    },
+    Area {
+        items: &[B(2), R(0), R(1), F(2)],
+        want: Err(3),
+    },
+    Area {
+        items: &[B(2), R(0), R(1), P(4), V(5, 3), V(6, 2)],
+        want: Ok((0, 4, 2, 5)),
     },
     // a copy, and the log after it
     Area {
@@ -236,6 +259,33 @@ fn records_stand_for_a_state_or_are_damaged(rt: HostRuntime) {
     for area in AREAS {
         assert_eq!(rt; read(rt.alloc(), area.items), area.want, "{area:?}");
     }
+}
+
+// Bodies, and the rows that they stand for; None where they are damaged.
+fn rows_read(alloc: Global, items: &[Item]) -> Result<Option<RowList>, Fail> {
+    match read_records(alloc, SIZE, &bodies_of(alloc, items)?) {
+        Ok((kept, _)) => Ok(Some(kept.rows)),
+        Err(ReadFault::Damaged { .. }) => Ok(None),
+        Err(ReadFault::OutOfMemory) => Err("no memory".into()),
+    }
+}
+
+#[test]
+fn rows_of_format_1_have_the_tables_added(rt: HostRuntime) -> Result<(), Fail> {
+    let old = rows_read(rt.alloc(), &[B(2), R(0), R(1)])?;
+    assert!(rt; old.is_some());
+    assert_eq!(rt; old, rows_read(rt.alloc(), &[B(3), R(0), R(1), F(2)])?);
+    Ok(())
+}
+
+#[test]
+fn a_base_of_format_1_is_told_apart(rt: HostRuntime) -> Result<(), Fail> {
+    let alloc = rt.alloc();
+    assert!(rt; begins_in_format_1(SIZE, &bodies_of(alloc, &[B(2), R(0), R(1)])?));
+    assert!(rt; !begins_in_format_1(SIZE, &bodies_of(alloc, &[B(3), R(0), R(1), F(2)])?));
+    assert!(rt; !begins_in_format_1(SIZE, &bodies_of(alloc, &[P(1)])?));
+    assert!(rt; !begins_in_format_1(SIZE, &[]));
+    Ok(())
 }
 
 // The group of a base of slot 5, and a copy of what was kept.

@@ -4,7 +4,7 @@ use crate::change::Change::{self, Base, Promised};
 use crate::change::after;
 use crate::kept::{disk_with, find};
 use disk_model::FileNo::{AreaA, AreaB, Chooser};
-use disk_model::{MemDisk, read_file};
+use disk_model::{ArmedDisk, MemDisk, read_file};
 use replica_store::StoreFault;
 use std::alloc::Global;
 use std::process::Abort;
@@ -132,6 +132,15 @@ const STANDING: &[Standing] = &[
         files: Files(&[1], "", "1b1r1s1t1p0"),
         changes: &[Base(5, 7), Promised(8)],
     },
+    // and in format 1
+    Standing {
+        files: Files(b"", "1c1r1s0", ""),
+        changes: &[Base(5, 7)],
+    },
+    Standing {
+        files: Files(&[1], "", "1c1r1s1p0"),
+        changes: &[Base(5, 7), Promised(8)],
+    },
 ];
 
 #[test]
@@ -183,7 +192,7 @@ const DAMAGED: &[Damaged] = &[
         files: Files(b"", "1b1s1r0", ""),
         gate: 1,
     },
-    // no row of the table, one that isn't its own, and a count of the jobs alone
+    // no row of the table, one that isn't its own, and one behind a count of the jobs alone, in format 1
     Damaged {
         files: Files(b"", "1b1r1s0", ""),
         gate: 3,
@@ -193,8 +202,8 @@ const DAMAGED: &[Damaged] = &[
         gate: 3,
     },
     Damaged {
-        files: Files(b"", "1c1r1s0", ""),
-        gate: 0,
+        files: Files(b"", "1c1r1s1t0", ""),
+        gate: 3,
     },
     Damaged {
         files: Files(b"", "1p1b1r1s1t0", ""),
@@ -255,12 +264,58 @@ const ATTACHED: &[Attached] = &[
     },
 ];
 
+fn attach_all(rt: &impl Abort, alloc: Global, rows: &[Attached]) -> Result<(), Fail> {
+    for row in rows {
+        let mut disk = make(alloc, row.files)?;
+        find(alloc, &mut disk)?;
+        has(rt, alloc, &mut disk, row.then)?;
+    }
+    Ok(())
+}
+
 #[test]
 fn an_attached_disk_has_a_closed_gate_more_alone(rt: HostRuntime) -> Result<(), Fail> {
-    for row in ATTACHED {
-        let mut disk = make(rt.alloc(), row.files)?;
-        find(rt.alloc(), &mut disk)?;
-        has(&rt, rt.alloc(), &mut disk, row.then)?;
+    attach_all(&rt, rt.alloc(), ATTACHED)
+}
+
+const MIGRATED: &[Attached] = &[
+    Attached {
+        files: Files(b"", "1c1r1s0", ""),
+        then: Files(&[1], "1c1r1s0", "1b1r1s1t0"),
+    },
+    Attached {
+        files: Files(&[1, 2], "1f0", "1c1r1s1p5"),
+        then: Files(&[0, 2], "1b1r1s1t1p0", "1c1r1s1p0"),
+    },
+];
+
+#[test]
+fn a_base_of_format_1_is_saved_anew(rt: HostRuntime) -> Result<(), Fail> {
+    attach_all(&rt, rt.alloc(), MIGRATED)
+}
+
+// The numbers of images, and how many calls an attach that saves a base makes: two syncs, and those of the base.
+const IMAGES: [u32; 4] = [0, 1, 2, 5];
+
+const CALLS: u32 = 7;
+
+fn stop_migration(rt: &impl Abort, alloc: Global, pass: u32, image: u32) -> Result<(), Fail> {
+    let mut disk = make(alloc, Files(b"", "1c1r1s1p0", ""))?;
+    disk.arm(pass, image);
+    let fault = find(alloc, &mut disk).err();
+    assert_eq!(rt; fault, Some(StoreFault::Stopped), "{pass} {image}");
+    disk.revive();
+    let want = after(alloc, &[Base(5, 7), Promised(8)])?;
+    assert_eq!(rt; find(alloc, &mut disk)?, want, "{pass} {image}");
+    Ok(())
+}
+
+#[test]
+fn a_stop_within_an_attach_keeps_a_base_of_format_1(rt: HostRuntime) -> Result<(), Fail> {
+    for pass in 0..CALLS {
+        for image in IMAGES {
+            stop_migration(&rt, rt.alloc(), pass, image)?;
+        }
     }
     Ok(())
 }

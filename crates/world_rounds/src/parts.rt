@@ -52,7 +52,9 @@ impl<D: Disk> World<D> {
     }
 
     /// A world of these parts. They are those of a world, as [`World::take_parts`] gives them: their lists have room for seven
-    /// replicas, and the room for as many as the book has is the one that came with them. It takes no memory.
+    /// replicas, and the room for as many as the book has is the one that came with them. Each node's disk uses the area to which
+    /// the bases of its replica in the book have led from an empty disk: one that was in format 1 has kept a base more. It takes
+    /// no memory.
     pub fn from_parts(parts: Parts<D>) -> World<D>
         requires parts { (table : Table) × AreParts D.view table parts }
         requires lists { HasListRoom parts }

@@ -1,11 +1,11 @@
-use Rattle.std.proofs.Common.{length, ap, ◌∙◌, subst}
+use Rattle.std.proofs.Common.{ap, ◌∙◌, subst}
 use Rattle.disk_model.specs.Images.{Image, file_of}
 use Rattle.gate_file.specs.Gates.{HasBodies}
 use Rattle.gate_file.proofs.GateLemmas.{some_list}
 use Rattle.replica_node.proofs.KeptLemmas.{tells_attached}
-use Rattle.replica_store.specs.Files.{FilesStand, selected}
+use Rattle.replica_store.specs.Files.{FilesStand, SelectsFormat1, selected}
 use Rattle.replica_store.specs.Store.{area_of}
-use Rattle.replica_store.specs.Made.{attach_calls, look_calls}
+use Rattle.replica_store.specs.Made.{look_calls}
 use Rattle.replica_store.proofs.FileLemmas.{fewer_recoverable}
 use Rattle.replica_node.proofs.FaultLemmas.{damaged_below, stopped_below}
 use Rattle.replica_node.proofs.QuietLemmas.{attach_never, attach_quiet, revived_seen, tells_revived}
@@ -35,16 +35,16 @@ returns-in_err-attach-clause-quiet g c =
     let mid = c.revive.new.self in
     let seen = g.D.Disk.view.seen mid in
     let found = some_list (file_of (selected seen) seen) in
-    attach_quiet (attach_calls seen (length found.0)) (look_calls seen) c.attach.result (g.D.Disk.view.told mid) (g.D.Disk.view.told c.attach.new.disk) (g.met.D.ArmedDisk.tells mid)
-    (tells_revived (g.D.Disk.view.told c.args.disk.now) (g.D.Disk.view.told mid) c.requires.stopped c.revive.ensures.told) (c.attach.ensures.told found.0 found.1) c.attach.ensures.told_damaged
+    attach_quiet (c.attach.ensures.told found.0 found.1).0 (look_calls seen) c.attach.result (g.D.Disk.view.told mid) (g.D.Disk.view.told c.attach.new.disk) (g.met.D.ArmedDisk.tells mid)
+    (tells_revived (g.D.Disk.view.told c.args.disk.now) (g.D.Disk.view.told mid) c.requires.stopped c.revive.ensures.told) (c.attach.ensures.told found.0 found.1).2 c.attach.ensures.told_damaged
 
 pub returns-in_err-attach-clause-never_stopped : goal.returns-in_err-attach-clause-never_stopped
 returns-in_err-attach-clause-never_stopped g c is =
     let mid = c.revive.new.self in
     let seen = g.D.Disk.view.seen mid in
     let found = some_list (file_of (selected seen) seen) in
-    attach_never (attach_calls seen (length found.0)) c.attach.result (g.D.Disk.view.told mid) (g.D.Disk.view.told c.attach.new.disk) (g.met.D.ArmedDisk.tells mid) (g.met.D.ArmedDisk.tells c.attach.new.disk)
-    (tells_revived (g.D.Disk.view.told c.args.disk.now) (g.D.Disk.view.told mid) c.requires.stopped c.revive.ensures.told) (c.attach.ensures.told found.0 found.1)
+    attach_never (c.attach.ensures.told found.0 found.1).0 c.attach.result (g.D.Disk.view.told mid) (g.D.Disk.view.told c.attach.new.disk) (g.met.D.ArmedDisk.tells mid) (g.met.D.ArmedDisk.tells c.attach.new.disk)
+    (tells_revived (g.D.Disk.view.told c.args.disk.now) (g.D.Disk.view.told mid) c.requires.stopped c.revive.ensures.told) (c.attach.ensures.told found.0 found.1).2
     (stopped_below c.in_err-attach.field-0.0 c.attach.result c.from_residual.result c.in_err-attach.was c.from_residual.ensures.1 is)
 
 pub returns-in_err-attach-clause-unended : goal.returns-in_err-attach-clause-unended
@@ -52,8 +52,8 @@ returns-in_err-attach-clause-unended g c sure ends =
     let mid = c.revive.new.self in
     let seen = g.D.Disk.view.seen mid in
     let found = some_list (file_of (selected seen) seen) in
-    reliable_never (attach_calls seen (length found.0)) c.attach.result (g.D.Disk.view.told mid) (g.D.Disk.view.told c.attach.new.disk)
-    (revived_reliable (g.D.Disk.view.told c.args.disk.now) (g.D.Disk.view.told mid) c.requires.stopped sure c.revive.ensures.told) (c.attach.ensures.told found.0 found.1)
+    reliable_never (c.attach.ensures.told found.0 found.1).0 c.attach.result (g.D.Disk.view.told mid) (g.D.Disk.view.told c.attach.new.disk)
+    (revived_reliable (g.D.Disk.view.told c.args.disk.now) (g.D.Disk.view.told mid) c.requires.stopped sure c.revive.ensures.told) (c.attach.ensures.told found.0 found.1).2
     (ends_below c.in_err-attach.field-0.0 c.attach.result c.from_residual.result c.in_err-attach.was c.from_residual.ensures.1 ends)
 
 pub returns-in_err-attach-clause-reliable : goal.returns-in_err-attach-clause-reliable
@@ -64,8 +64,8 @@ returns-in_err-attach-clause-reliable g c sure =
     let revived = reliable_unfailing (g.D.Disk.view.told mid) (revived_reliable (g.D.Disk.view.told c.args.disk.now) (g.D.Disk.view.told mid) c.requires.stopped sure c.revive.ensures.told) in
     quiet_reliable (g.D.Disk.view.told c.attach.new.disk) (g.met.D.ArmedDisk.tells c.attach.new.disk)
     (after_cant_fail c.from_residual.result (g.D.Disk.view.told c.attach.new.disk)
-    (unfailing_below (attach_calls seen (length found.0)) (look_calls seen) c.in_err-attach.field-0.0 c.attach.result c.from_residual.result (g.D.Disk.view.told mid) (g.D.Disk.view.told c.attach.new.disk)
-    c.in_err-attach.was c.from_residual.ensures.1 revived.0 (c.attach.ensures.told found.0 found.1) c.attach.ensures.told_damaged))
+    (unfailing_below (c.attach.ensures.told found.0 found.1).0 (look_calls seen) c.in_err-attach.field-0.0 c.attach.result c.from_residual.result (g.D.Disk.view.told mid) (g.D.Disk.view.told c.attach.new.disk)
+    c.in_err-attach.was c.from_residual.ensures.1 revived.0 (c.attach.ensures.told found.0 found.1).2 c.attach.ensures.told_damaged))
     (returns-in_err-attach-clause-quiet g c)
 
 -- ---- it is attached
@@ -74,16 +74,16 @@ pub returns-clause-reliable : goal.returns-clause-reliable
 returns-clause-reliable g c sure =
     let mid = c.revive.new.self in
     let found = c.in_ok-attach.ensures.stand in
-    reliable_done (attach_calls (g.D.Disk.view.seen mid) (length found.bodies)) c.in_ok-attach.field-0 (g.D.Disk.view.told mid) (g.D.Disk.view.told c.attach.new.disk)
-    (revived_reliable (g.D.Disk.view.told c.args.disk.now) (g.D.Disk.view.told mid) c.requires.stopped sure c.revive.ensures.told) (c.in_ok-attach.ensures.told found.bodies found.has)
+    reliable_done (c.in_ok-attach.ensures.told found.bodies found.has).0 c.in_ok-attach.field-0 (g.D.Disk.view.told mid) (g.D.Disk.view.told c.attach.new.disk)
+    (revived_reliable (g.D.Disk.view.told c.args.disk.now) (g.D.Disk.view.told mid) c.requires.stopped sure c.revive.ensures.told) (c.in_ok-attach.ensures.told found.bodies found.has).2
 
 pub returns-clause-quiet : goal.returns-clause-quiet
 returns-clause-quiet g c =
     let mid = c.revive.new.self in
     let seen = g.D.Disk.view.seen mid in
     let found = some_list (file_of (selected seen) seen) in
-    attach_quiet (attach_calls seen (length found.0)) (look_calls seen) c.attach.result (g.D.Disk.view.told mid) (g.D.Disk.view.told c.attach.new.disk) (g.met.D.ArmedDisk.tells mid)
-    (tells_revived (g.D.Disk.view.told c.args.disk.now) (g.D.Disk.view.told mid) c.requires.stopped c.revive.ensures.told) (c.attach.ensures.told found.0 found.1) c.attach.ensures.told_damaged
+    attach_quiet (c.attach.ensures.told found.0 found.1).0 (look_calls seen) c.attach.result (g.D.Disk.view.told mid) (g.D.Disk.view.told c.attach.new.disk) (g.met.D.ArmedDisk.tells mid)
+    (tells_revived (g.D.Disk.view.told c.args.disk.now) (g.D.Disk.view.told mid) c.requires.stopped c.revive.ensures.told) (c.attach.ensures.told found.0 found.1).2 c.attach.ensures.told_damaged
 
 pub returns-clause-image : goal.returns-clause-image
 returns-clause-image g c told is =
@@ -92,9 +92,10 @@ returns-clause-image g c told is =
     (revived_seen (g.D.Disk.view.told c.args.disk.now) (g.D.Disk.view.told mid) told (g.D.Disk.view.seen mid) (g.met.D.ArmedDisk.tells mid) c.requires.stopped c.revive.ensures.told is (g.met.D.Disk.done_is_seen mid)) c.in_ok-attach.ensures.stand
 
 pub returns-clause-area : goal.returns-clause-area
-returns-clause-area g c told is =
+returns-clause-area g c told is none =
     let mid = c.revive.new.self in
-    c.in_ok-attach.ensures.area ∙ ap selected (revived_seen (g.D.Disk.view.told c.args.disk.now) (g.D.Disk.view.told mid) told (g.D.Disk.view.seen mid) (g.met.D.ArmedDisk.tells mid) c.requires.stopped c.revive.ensures.told is (g.met.D.Disk.done_is_seen mid))
+    let same = revived_seen (g.D.Disk.view.told c.args.disk.now) (g.D.Disk.view.told mid) told (g.D.Disk.view.seen mid) (g.met.D.ArmedDisk.tells mid) c.requires.stopped c.revive.ensures.told is (g.met.D.Disk.done_is_seen mid) in
+    c.in_ok-attach.ensures.area (λ selects. none (subst (SelectsFormat1 c.args.size) same selects)) ∙ ap selected same
 
 pub returns-clause-either : goal.returns-clause-either
 returns-clause-either g c before after honest recoverable =
@@ -111,5 +112,6 @@ returns-clause-clean g c =
     let mid = c.revive.new.self in
     let image = g.D.Disk.view.seen mid in
     let found = c.in_ok-attach.ensures.stand in
-    tells_attached image (length found.bodies) (area_of c.in_ok-attach.field-0.0) c.in_ok-attach.field-0 (g.D.Disk.view.told mid) (g.D.Disk.view.told c.attach.new.disk) (g.met.D.ArmedDisk.tells mid)
-    c.in_ok-attach.ensures.area (c.in_ok-attach.ensures.told found.bodies found.has)
+    let made = c.in_ok-attach.ensures.told found.bodies found.has in
+    tells_attached c.args.size image found.bodies made.0 (area_of c.in_ok-attach.field-0.0) c.in_ok-attach.field-0 (g.D.Disk.view.told mid) (g.D.Disk.view.told c.attach.new.disk) (g.met.D.ArmedDisk.tells mid)
+    made.1 made.2 c.in_ok-attach.ensures.clean

@@ -1,4 +1,4 @@
-use Rattle.std.proofs.Common.{◌∙◌, subst, length}
+use Rattle.std.proofs.Common.{◌∙◌, subst}
 use Rattle.replica_store.specs.Store.{area_of}
 use Rattle.paxos_base.specs.declared.rows.TableSize.{TableSize}
 use Rattle.gate_file.specs.File.{bodies_of}
@@ -10,7 +10,7 @@ use Rattle.replica_node.proofs.ReliableLemmas.{ends_below, reliable_done, reliab
 use Rattle.disk_model.specs.Images.{file_of}
 use Rattle.gate_file.proofs.GateLemmas.{some_list}
 use Rattle.replica_store.specs.Files.{selected}
-use Rattle.replica_store.specs.Made.{attach_calls, look_calls}
+use Rattle.replica_store.specs.Made.{look_calls}
 use Rattle.replica_node.proofs.start.start.Goals as goal
 
 -- ---- the store is not attached
@@ -65,8 +65,8 @@ pub returns-clause-clean : goal.returns-clause-clean
 returns-clause-clean g c tells =
     let image = g.D.Disk.view.seen c.args.disk.now in
     let found = c.in_ok-store.ensures.stand in
-    tells_attached image (length found.bodies) (area_of c.in_ok-store.store) (c.in_ok-store.store, c.in_ok-store.kept) (g.D.Disk.view.told c.args.disk.now) (g.D.Disk.view.told c.attach.new.disk) tells c.in_ok-store.ensures.area
-    (c.in_ok-store.ensures.told found.bodies found.has)
+    let made = c.in_ok-store.ensures.told found.bodies found.has in
+    tells_attached c.table_size.result image found.bodies made.0 (area_of c.in_ok-store.store) (c.in_ok-store.store, c.in_ok-store.kept) (g.D.Disk.view.told c.args.disk.now) (g.D.Disk.view.told c.attach.new.disk) tells made.1 made.2 c.in_ok-store.ensures.clean
 
 -- ---- from a disk that is reliable
 
@@ -74,13 +74,13 @@ pub returns-clause-reliable : goal.returns-clause-reliable
 returns-clause-reliable g c sure =
     let image = g.D.Disk.view.seen c.args.disk.now in
     let found = c.in_ok-store.ensures.stand in
-    reliable_done (attach_calls image (length found.bodies)) (c.in_ok-store.store, c.in_ok-store.kept) (g.D.Disk.view.told c.args.disk.now) (g.D.Disk.view.told c.attach.new.disk) sure (c.in_ok-store.ensures.told found.bodies found.has)
+    reliable_done (c.in_ok-store.ensures.told found.bodies found.has).0 (c.in_ok-store.store, c.in_ok-store.kept) (g.D.Disk.view.told c.args.disk.now) (g.D.Disk.view.told c.attach.new.disk) sure (c.in_ok-store.ensures.told found.bodies found.has).2
 
 pub returns-in_err-store-clause-unended : goal.returns-in_err-store-clause-unended
 returns-in_err-store-clause-unended g c sure ends =
     let image = g.D.Disk.view.seen c.args.disk.now in
     let found = some_list (file_of (selected image) image) in
-    reliable_never (attach_calls image (length found.0)) c.attach.result (g.D.Disk.view.told c.args.disk.now) (g.D.Disk.view.told c.attach.new.disk) sure (c.attach.ensures.told found.0 found.1)
+    reliable_never (c.attach.ensures.told found.0 found.1).0 c.attach.result (g.D.Disk.view.told c.args.disk.now) (g.D.Disk.view.told c.attach.new.disk) sure (c.attach.ensures.told found.0 found.1).2
     (ends_below c.in_err-store.field-0.0 c.attach.result c.from_residual.result c.in_err-store.was c.from_residual.ensures.1 ends)
 
 -- ---- from a disk that can't fail, and may be armed
@@ -89,18 +89,26 @@ pub returns-clause-unfailing : goal.returns-clause-unfailing
 returns-clause-unfailing g c sure =
     let image = g.D.Disk.view.seen c.args.disk.now in
     let found = c.in_ok-store.ensures.stand in
-    unfailing_done (attach_calls image (length found.bodies)) (c.in_ok-store.store, c.in_ok-store.kept) (g.D.Disk.view.told c.args.disk.now) (g.D.Disk.view.told c.attach.new.disk) sure (c.in_ok-store.ensures.told found.bodies found.has)
+    unfailing_done (c.in_ok-store.ensures.told found.bodies found.has).0 (c.in_ok-store.store, c.in_ok-store.kept) (g.D.Disk.view.told c.args.disk.now) (g.D.Disk.view.told c.attach.new.disk) sure (c.in_ok-store.ensures.told found.bodies found.has).2
 
 pub returns-in_err-replica-clause-unfailing : goal.returns-in_err-replica-clause-unfailing
 returns-in_err-replica-clause-unfailing g c sure =
     let image = g.D.Disk.view.seen c.args.disk.now in
     let found = c.in_ok-store.ensures.stand in
-    let here = unfailing_done (attach_calls image (length found.bodies)) (c.in_ok-store.store, c.in_ok-store.kept) (g.D.Disk.view.told c.args.disk.now) (g.D.Disk.view.told c.attach.new.disk) sure (c.in_ok-store.ensures.told found.bodies found.has) in
+    let here = unfailing_done (c.in_ok-store.ensures.told found.bodies found.has).0 (c.in_ok-store.store, c.in_ok-store.kept) (g.D.Disk.view.told c.args.disk.now) (g.D.Disk.view.told c.attach.new.disk) sure (c.in_ok-store.ensures.told found.bodies found.has).2 in
     unfailing_memory c.from_residual-in_err-replica.result (g.D.Disk.view.told c.attach.new.disk) c.from_residual-in_err-replica.ensures.1 here
 
 pub returns-in_err-store-clause-unfailing : goal.returns-in_err-store-clause-unfailing
 returns-in_err-store-clause-unfailing g c sure =
     let image = g.D.Disk.view.seen c.args.disk.now in
     let found = some_list (file_of (selected image) image) in
-    unfailing_below (attach_calls image (length found.0)) (look_calls image) c.in_err-store.field-0.0 c.attach.result c.from_residual.result (g.D.Disk.view.told c.args.disk.now) (g.D.Disk.view.told c.attach.new.disk)
-    c.in_err-store.was c.from_residual.ensures.1 sure (c.attach.ensures.told found.0 found.1) c.attach.ensures.told_damaged
+    unfailing_below (c.attach.ensures.told found.0 found.1).0 (look_calls image) c.in_err-store.field-0.0 c.attach.result c.from_residual.result (g.D.Disk.view.told c.args.disk.now) (g.D.Disk.view.told c.attach.new.disk)
+    c.in_err-store.was c.from_residual.ensures.1 sure (c.attach.ensures.told found.0 found.1).2 c.attach.ensures.told_damaged
+
+-- ---- the area
+
+pub returns-in_err-store-clause-recoverable : goal.returns-in_err-store-clause-recoverable
+returns-in_err-store-clause-recoverable g c = rw (← c.table_size.ensures.size) c.attach.ensures.recoverable
+
+pub returns-clause-area : goal.returns-clause-area
+returns-clause-area g c none = c.in_ok-store.ensures.area (rw c.table_size.ensures.size none)

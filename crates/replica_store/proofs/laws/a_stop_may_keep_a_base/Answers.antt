@@ -18,3 +18,12 @@ returns-clause-lost_area c size area kept own slot rows arm old new save more hi
 
 pub returns-clause-saved_area : goal.returns-clause-saved_area
 returns-clause-saved_area c size area kept own slot rows arm old new save more shows = base_area size area kept own slot rows arm old new save more shows
+
+pub returns-clause-early_format : goal.returns-clause-early_format
+returns-clause-early_format c size area kept own slot rows arm old new save few = (base_early size area kept own slot rows arm old new save few).format
+
+pub returns-clause-lost_format : goal.returns-clause-lost_format
+returns-clause-lost_format c size area kept own slot rows arm old new save more hides = (base_lost size area kept own slot rows arm old new save more hides).format
+
+pub returns-clause-saved_format : goal.returns-clause-saved_format
+returns-clause-saved_format c size area kept own slot rows arm old new save are more shows = (base_kept size area kept own slot rows arm old new save are more shows).format

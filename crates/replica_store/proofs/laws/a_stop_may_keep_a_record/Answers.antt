@@ -12,3 +12,12 @@ returns-clause-saved c size area kept own change item arm old new save is record
 
 pub returns-clause-area : goal.returns-clause-area
 returns-clause-area c size area kept own change item arm old new save is = record_area size area kept own change item arm old new save is
+
+pub returns-clause-early_format : goal.returns-clause-early_format
+returns-clause-early_format c size area kept own change item arm old new save is few = (record_early size area kept own change item arm old new save is few).format
+
+pub returns-clause-lost_format : goal.returns-clause-lost_format
+returns-clause-lost_format c size area kept own change item arm old new save is more hides = (record_lost size area kept own change item arm old new save is more hides).format
+
+pub returns-clause-saved_format : goal.returns-clause-saved_format
+returns-clause-saved_format c size area kept own change item arm old new save is record_is more shows = (record_kept size area kept own change item arm old new save is record_is more shows).format

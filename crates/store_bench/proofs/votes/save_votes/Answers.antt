@@ -1,10 +1,22 @@
-use Rattle.std.proofs.Common.{◌≤◌, arith, subst}
+use Rattle.std.proofs.Common.{ℕ, ◌≤◌, Option, None, Some, arith, subst}
+use Rattle.std.specs.Option.{unwrap_or}
 use Rattle.gate_file.specs.File.{bodies_of}
 use Rattle.paxos_base.specs.Ballot.{IsAtLeast}
 use Rattle.paxos_base.specs.declared.durable.Durable.{Durable}
 use Rattle.paxos_base.specs.Durable.{after_delta}
 use Rattle.replica_store.proofs.FileLemmas.{bodies_stand_for_one}
 use Rattle.store_bench.proofs.votes.save_votes.Goals as goal
+
+-- the ballot that is promised, or else another, is at least the one that is promised
+at_least : (promised : Option ℕ) (other : ℕ) → IsAtLeast (unwrap_or promised other) promised
+at_least None other = tt
+at_least (Some ballot) other = omega arith
+
+pub loop-slot-init : goal.loop-slot-init
+loop-slot-init c = record {
+  rests = c.in_ok-store.ensures.rests;
+  takes = (c.in_ok-store.kept, (c.in_ok-store.ensures.keeps, (rw c.unwrap_or-ballot.ensures (at_least c.in_ok-store.kept.promised c.of.result), omega arith)));
+}
 
 pub save-requires-clause-follows : goal.save-requires-clause-follows
 save-requires-clause-follows c kept keeps =

@@ -3,6 +3,7 @@ use Rattle.paxos_base.specs.Vote.{votes_from}
 use Rattle.store_format.specs.Area.{base_records}
 use Rattle.store_format.specs.Records.{AreRecords}
 use Rattle.store_format.proofs.BaseLemmas.{base_stand_for}
+use Rattle.store_format.proofs.FormatLemmas.{base_in_format_2}
 use Rattle.store_format.proofs.WriteLemmas.{base_added, AreRecords-bytes}
 use Rattle.store_format.proofs.base.write_base.Goals as goal
 use Rattle.store_format.proofs.base.write_base.Goals.{In_ok-put_votes_from}
@@ -21,3 +22,7 @@ returns-clause-bodies c =
 pub returns-clause-stand : goal.returns-clause-stand
 returns-clause-stand c size sound stand =
     base_stand_for size c.put_votes_from.new.bodies.items c.args.kept.now c.args.own c.args.slot c.args.rows.now (written c) sound stand
+
+pub returns-clause-format : goal.returns-clause-format
+returns-clause-format c size stand begins =
+    base_in_format_2 size c.put_votes_from.new.bodies.items c.args.slot c.args.rows.now c.args.kept.now c.args.own stand (written c) begins

@@ -1,4 +1,4 @@
-use Rattle.std.proofs.Common.{◌≡◌, ℕ, ◌+◌, ◌<◌, List, [], ◌∷◌, ◌++◌, refl, length, take, get_or, sym, ap, subst, ◌∙◌, arith}
+use Rattle.std.proofs.Common.{◌≡◌, ℕ, ◌+◌, ◌<◌, List, [], ◌∷◌, ◌++◌, length, take, get_or, sym, ap, subst, ◌∙◌, arith}
 use Rattle.std.proofs.lemmas.Bool.{false≢true}
 use Rattle.std.proofs.lemmas.List.{take_more, get_or_read}
 use Rattle.std.proofs.lemmas.Option.{none-some}
@@ -58,18 +58,18 @@ pub returns-then-is_in_group-clause-damaged : goal.returns-then-is_in_group-clau
 returns-then-is_in_group-clause-damaged c j same =
     let number : length c.args.bodies.now ≡ j = cc same in
     subst (IsFirstRecordAtFault c.args.size c.args.bodies.now) number
-    (broken_off c.args.size c.args.bodies.now c.loop-number.number c.loop-number.reader.place c.loop-number.reader.kept c.loop-number.reader.own (omega (arith, c.well_formed)) c.loop-number-test.false c.loop-number.invariant (c.if-is_in_group.ensures.0 refl))
+    (broken_off c.args.size c.args.bodies.now c.loop-number.number c.loop-number.reader.place c.loop-number.reader.kept c.loop-number.reader.own (omega (arith, c.well_formed)) c.loop-number-test.false c.loop-number.invariant (sym c.if-is_in_group.ensures))
 
 pub returns-then-is_in_group-clause-only : goal.returns-then-is_in_group-clause-only
 returns-then-is_in_group-clause-only c kept own stand =
-    let fault = broken_off c.args.size c.args.bodies.now c.loop-number.number c.loop-number.reader.place c.loop-number.reader.kept c.loop-number.reader.own (omega (arith, c.well_formed)) c.loop-number-test.false c.loop-number.invariant (c.if-is_in_group.ensures.0 refl) in
+    let fault = broken_off c.args.size c.args.bodies.now c.loop-number.number c.loop-number.reader.place c.loop-number.reader.kept c.loop-number.reader.own (omega (arith, c.well_formed)) c.loop-number-test.false c.loop-number.invariant (sym c.if-is_in_group.ensures) in
     absurd (fault.for_none kept own stand)
 
 -- what was read
 whole : (c : Else-is_in_group) → StandFor c.args.size c.args.bodies.now c.loop-number.reader.kept c.loop-number.reader.own
 whole c =
     all_read c.args.size c.args.bodies.now c.loop-number.number c.loop-number.reader.place c.loop-number.reader.kept c.loop-number.reader.own c.loop-number-test.false c.loop-number.invariant
-    (λ is_rows. false≢true (c.if-is_in_group.ensures.1 is_rows))
+    (λ is_rows. false≢true (c.if-is_in_group.ensures ∙ is_rows))
 
 pub returns-clause-found : goal.returns-clause-found
 returns-clause-found c = whole c

@@ -4,6 +4,7 @@ use Rattle.step_spec.specs.State.{started}
 use Rattle.agreement.specs.World.{fresh}
 use Rattle.replica_store.proofs.FileLemmas.{empty_recoverable}
 use Rattle.replica_node.specs.Node.{fault_of}
+use Rattle.replica_node.proofs.RestLemmas.{empty_in_format_2}
 use Rattle.world_steps.proofs.MemoryLemmas.{memory_alone}
 use Rattle.world_rounds.proofs.Starting.{either_way, first_area}
 use Rattle.world_steps.proofs.Stopping.{and_some}
@@ -12,6 +13,8 @@ use Rattle.world_rounds.proofs.start.start_member.Goals as goal
 pub returns-in-Ok : goal.returns-in-Ok
 returns-in-Ok g c =
     let start = fresh (first_rows c.args.table.now) in
+    let left = g.met.D.Disk.seen_is_left c.args.disk c.requires.fresh.trusted in
+    let none = empty_in_format_2 (table_size c.args.table.now) (g.D.Disk.view.seen c.args.disk) (c.requires.fresh.empty (g.D.Disk.view.seen c.args.disk) left) in
     let found =
     c.in-Ok.ensures.either start start c.requires.fresh.trusted (empty_recoverable (table_size c.args.table.now) (g.D.Disk.view.may_leave c.args.disk) c.requires.fresh.empty) in
     record {
@@ -20,7 +23,7 @@ returns-in-Ok g c =
       disk = record {
         reliable = c.in-Ok.ensures.reliable c.requires.fresh.reliable;
         clean = c.in-Ok.ensures.clean (and_some _ (g.D.Disk.view.told c.args.disk) c.requires.fresh.reliable);
-        area = c.in-Ok.ensures.area ∙ first_area g.D.Disk.view c.args.disk c.requires.fresh.empty (g.met.D.Disk.seen_is_left c.args.disk c.requires.fresh.trusted);
+        area = c.in-Ok.ensures.area none ∙ first_area g.D.Disk.view c.args.disk c.requires.fresh.empty left;
       };
       identity = c.in-Ok.ensures.identity;
       state = c.in-Ok.ensures.started ∙ ap (started c.args.me) (either_way _ start found);

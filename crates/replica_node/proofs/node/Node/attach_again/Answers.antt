@@ -51,6 +51,7 @@ returns-clause-at_rest g c =
       coherent = subst (λ (identity : Identity). IsCoherent identity replica.state) (sym c.in_ok-self.ensures.identity) first;
       rests = c.in_ok-store.ensures.rests;
       size = c.in_ok-store.ensures.size ∙ c.table_size.ensures.size;
+      format = c.in_ok-store.ensures.format;
       keeps = subst (λ (found : Durable). StoreKeeps store found) (sym (ap (λ (state : State). state.kept) c.in_ok-self.ensures.state)) keeps;
     }
 
@@ -106,7 +107,8 @@ returns-clause-area_by_arm g c stop area arm honest left =
     planned_as c.args.table.now c.args.self.now.replica c.in-Some.planned stop.planned stop.change c.args.self.now.stopped (sym c.take.ensures.value ∙ c.in-Some.is) stop.is_cut_short stop.has_planned in
     tells_area (table_size c.args.table.now) area c.args.self.now.replica.state.kept stop.change arm c.take_kept-change.result (g.D.Disk.view.told c.args.self.now.disk) (area_of c.in_ok-store.store) stop.has_planned.follows
     left (returns-clause-answer_by_arm g c stop area arm honest left)
-    (change_or_none stop.change c.in_ok-store.kept c.take_kept-change.result (c.take_kept-change.ensures.answer stop.change planned)) c.in_ok-store.ensures.area
+    (change_or_none stop.change c.in_ok-store.kept c.take_kept-change.result (c.take_kept-change.ensures.answer stop.change planned))
+    (λ told is none. c.in_ok-store.ensures.area told is (rw c.table_size.ensures.size none))
 
 -- ---- the disk isn't attached
 

@@ -56,7 +56,7 @@ returns-in-Ok-clause-at_rest g c =
     let alike : IsSameReplica kept.replica old.replica = subst (λ (now : ReplicaState). IsSameReplica now old.replica) (sym c.keep.ensures.replica) c.plan.ensures.alike in
     let takes = c.complete.ensures acts (plans_alike old.replica kept.replica acts planned alike plans.plans) in
     at_rest_after g.D.Disk.view table c.args.input old (record { replica = c.complete.new.self; store = kept.store; disk = kept.disk; running = kept.running; stopped = kept.stopped }) kept.replica planned (option_copied c.delta.result)
-    c.complete.result c.requires.at_rest alike plans takes told c.in-Ok.ensures.runs c.keep.ensures.size c.in-Ok.ensures.rests (rw c.keep.ensures.replica c.in-Ok.ensures.keeps)
+    c.complete.result c.requires.at_rest alike plans takes told c.in-Ok.ensures.runs c.keep.ensures.size c.keep.ensures.format c.in-Ok.ensures.rests (rw c.keep.ensures.replica c.in-Ok.ensures.keeps)
 
 pub returns-in-Ok-clause-safe : goal.returns-in-Ok-clause-safe
 returns-in-Ok-clause-safe g c honest image left =
@@ -222,7 +222,7 @@ returns-in-Err-clause-refused g c refused =
     let new = c.keep.new.self in
     let alike : IsSameReplica new.replica old.replica = subst (λ (now : ReplicaState). IsSameReplica now old.replica) (sym c.keep.ensures.replica) c.plan.ensures.alike in
     let memory = c.keep.ensures.memory (memory_below {U = StepOut} c.in-Err.fault c.keep.result (Err c.in-Err.fault) c.in-Err.is refl c.keep.ensures.no_letter refused) in
-    at_rest_still g.D.Disk.view c.args.table.now old new c.requires.at_rest alike memory.0 c.keep.ensures.size memory.1 (rw c.keep.ensures.replica memory.2)
+    at_rest_still g.D.Disk.view c.args.table.now old new c.requires.at_rest alike memory.0 c.keep.ensures.size c.keep.ensures.format memory.1 (rw c.keep.ensures.replica memory.2)
 
 pub returns-in-Err-clause-told : goal.returns-in-Err-clause-told
 returns-in-Err-clause-told g c =

@@ -80,7 +80,7 @@ returns-in-Err-Stopped-clause-kept_by_arm g c change arm is stopped clean armed 
     let same : c.in-Some.delta.now ≡ change = same_Some c.in-Some.delta.now change (sym here ∙ is) in
     let size = size_of_store node.store in
     subst (λ (d : Delta). LeavesByArm size (area_of node.store) kept d arm (g.D.Disk.view.told c.save.new.disk)) same
-    (tells_by_arm g.D.Disk.view node.disk node.store kept own.0 c.in-Some.delta.now c.requires.rests arm (g.D.Disk.view.told node.disk) (g.D.Disk.view.told c.save.new.disk)
+    (tells_by_arm g.D.Disk.view node.disk node.store kept own.0 c.in-Some.delta.now c.requires.rests c.requires.format arm (g.D.Disk.view.told node.disk) (g.D.Disk.view.told c.save.new.disk)
     (g.met.D.Disk.done_is_seen node.disk) clean armed own.1 (c.requires.follows c.in-Some.delta.now here) c.in-Err-Stopped.field-0 c.in-Err-Stopped.field-0-is
     (c.in-Err-Stopped.ensures.told kept own.0 own.1) c.save.ensures.spelled (λ slot rows base. c.in-Err-Stopped.ensures.base_spelled kept own.0 slot rows own.1 base (ap Err c.in-Err-Stopped.field-0-is)))
 

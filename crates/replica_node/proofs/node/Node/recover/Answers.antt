@@ -26,6 +26,7 @@ returns-in-Ok-clause-at_rest g c =
       coherent = subst (λ (identity : Identity). IsCoherent identity replica.state) (sym found.identity) first;
       rests = found.rests;
       size = found.size;
+      format = found.format;
       keeps = found.keeps;
     }
 

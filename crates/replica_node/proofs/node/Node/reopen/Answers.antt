@@ -110,7 +110,7 @@ returns-in-Ok-clause-lost_by_arm g c stop area arm honest left anew loses =
     lost_answer area c.args.self.replica.state.kept stop.change arm c.take_kept-change.result (returns-in-Ok-clause-answer_by_arm g c stop area arm honest left) (stop.has_planned.alters anew) loses
 
 pub returns-in-Ok-clause-area : goal.returns-in-Ok-clause-area
-returns-in-Ok-clause-area g c told is = c.in-Ok.ensures.rests.selects ∙ c.in-Ok.ensures.area told is
+returns-in-Ok-clause-area g c told is none = c.in-Ok.ensures.rests.selects ∙ c.in-Ok.ensures.area told is (rw c.table_size.ensures.size none)
 
 pub returns-in-Ok-clause-area_by_arm : goal.returns-in-Ok-clause-area_by_arm
 returns-in-Ok-clause-area_by_arm g c stop area arm honest left =

@@ -1,186 +1,66 @@
-use Rattle.std.proofs.Common.{◌≢◌, ◌∷◌, [], ◌++◌, length, map, Some, Ok, Err, rules, sym, ap, ◌∙◌, subst}
-use Rattle.std.specs.Bool.{⊤}
-use Rattle.disk_model.specs.declared.fault.FileNo.TheVariants.{Chooser}
-use Rattle.disk_model.specs.Images.{Image, file_of, Torn, HoldsPiece, InFile, InFileOnly}
+use Rattle.std.proofs.Common.{◌≡◌, [], length, Some, Ok, Err, sym, ◌∙◌, subst}
+use Rattle.disk_model.specs.Images.{Image, InFileOnly}
 use Rattle.disk_model.proofs.RunLemmas.{now_in_run}
-use Rattle.gate_file.specs.File.{file_no, bodies_of}
+use Rattle.gate_file.specs.File.{bodies_of}
 use Rattle.gate_file.specs.Gates.{IsStaged}
 use Rattle.paxos_base.specs.Durable.{after_delta}
 use Rattle.store_format.specs.Order.{ChangeMayFollow}
-use Rattle.replica_store.specs.Files.{bit_of, other_area, BodiesStand}
+use Rattle.replica_store.specs.Files.{BodiesStand, FilesStandForEither, IsRecoverable}
 use Rattle.replica_store.specs.declared.store.Store.{Store}
-use Rattle.replica_store.specs.Store.{area_of}
-use Rattle.replica_store.proofs.FaultLemmas.{handed_on, gates_handed_on}
-use Rattle.replica_store.proofs.FileLemmas.{other_is_area}
-use Rattle.replica_store.proofs.ImageLemmas.{stays_durable}
-use Rattle.replica_store.proofs.SaveLemmas.{change_stands, run_stands, run_recoverable, two_runs, append_recoverable, other_recoverable, chooser_recoverable, rests_in_area, rests_in_other, rests_in_chooser, rests_by_chooser}
+use Rattle.replica_store.specs.Store.{area_of, StoreKeeps}
+use Rattle.replica_store.proofs.FaultLemmas.{gates_handed_on}
+use Rattle.replica_store.proofs.SaveLemmas.{change_in_format_2, change_stands, run_stands, run_recoverable, append_recoverable, rests_in_area}
 use Rattle.disk_model.specs.Made.{MadeCalls}
 use Rattle.disk_model.specs.Told.{TellsThen}
-use Rattle.disk_model.proofs.MadeLemmas.{all_then, handed, made_all, made_done, made_later, made_sooner, tells_then, tells_weaker, write_breaks, write_done, made_some}
-use Rattle.disk_model.specs.Told.{AfterWriteSynced}
+use Rattle.disk_model.specs.View.{LeavesOnly}
+use Rattle.std.specs.Prelude.{OnOk}
+use Rattle.disk_model.proofs.MadeLemmas.{made_all, made_done, made_sooner, tells_weaker}
 use Rattle.gate_file.specs.Faults.{gate_fault_of}
-use Rattle.gate_file.specs.Made.{append_calls, rewrite_calls}
-use Rattle.store_format.specs.Area.{base_records}
-use Rattle.store_format.specs.Records.{record_bytes}
+use Rattle.gate_file.specs.Made.{append_calls}
+use Rattle.store_format.specs.Area.{BeginsInFormat1}
 use Rattle.replica_store.specs.Faults.{of_disk}
-use Rattle.replica_store.specs.Made.{area_after, choose_calls, save_calls}
+use Rattle.replica_store.specs.Made.{area_after, save_calls}
 use Rattle.replica_store.specs.Store.{records_of}
-use Rattle.replica_store.proofs.MadeLemmas.{disk_apart, gates_handed, same_base_spelled, saves_record, stays_in_area}
+use Rattle.replica_store.proofs.MadeLemmas.{gates_handed, same_base_spelled, saves_record, stays_in_area}
 use Rattle.replica_store.proofs.store.Store.save.Goals as goal
 
--- ---- the other area
+-- ---- a base
 
-pub write_area-requires-clause-rows : goal.write_area-requires-clause-rows
-write_area-requires-clause-rows g c =
+pub save_base-requires-clause-rows : goal.save_base-requires-clause-rows
+save_base-requires-clause-rows g c =
     let keeps = c.requires.rests.keeps in
     (subst (ChangeMayFollow c.args.self.now.size keeps.0) c.in-Base.is (c.requires.follows keeps.0 keeps.1)).1
 
-pub returns-in_err-gates-clause-images : goal.returns-in_err-gates-clause-images
-returns-in_err-gates-clause-images g c kept keeps honest =
-    let old = c.args.disk.now in
-    let store = c.args.self.now in
-    let after = after_delta c.args.delta.now kept in
-    let recoverable = other_recoverable g.D.Disk.view old store c.requires.rests kept after (λ bytes. ⊤) keeps honest in
-    run_stands g.D.Disk.view store.size kept after old c.write_area.new.disk (InFileOnly (other_area (area_of store)) (g.D.Disk.view.may_leave old) (λ bytes. ⊤)) recoverable (c.write_area.ensures.images honest)
-
-pub returns-in_err-gates-clause-recoverable : goal.returns-in_err-gates-clause-recoverable
-returns-in_err-gates-clause-recoverable g c kept keeps honest =
-    let old = c.args.disk.now in
-    let mid = c.write_area.new.disk in
-    let store = c.args.self.now in
-    let after = after_delta c.args.delta.now kept in
-    let recoverable = other_recoverable g.D.Disk.view old store c.requires.rests kept after (λ bytes. ⊤) keeps honest in
-    run_recoverable g.D.Disk.view store.size kept after old mid (InFileOnly (other_area (area_of store)) (g.D.Disk.view.may_leave old) (λ bytes. ⊤))
-    (λ start image le left. g.met.D.Disk.counts_now mid start image (c.write_area.ensures.answer.honest_still.1 honest) le left) recoverable (c.write_area.ensures.images honest)
-
-pub returns-in_err-gates-clause-memory : goal.returns-in_err-gates-clause-memory
-returns-in_err-gates-clause-memory g c memory =
-    let old = c.args.disk.now in
-    let mid = c.write_area.new.disk in
-    let store = c.args.self.now in
-    rests_in_other g.D.Disk.view old store c.requires.rests mid (λ bytes. ⊤) c.write_area.ensures.answer.honest_still.0 (c.write_area.ensures.memory_others (search rules))
-    (λ honest. now_in_run g.D.Disk.view old mid (InFileOnly (other_area (area_of store)) (g.D.Disk.view.may_leave old) (λ bytes. ⊤))
-    (λ start image le left. g.met.D.Disk.counts_now mid start image (c.write_area.ensures.answer.honest_still.1 honest) le left) (c.write_area.ensures.images honest))
-
--- ---- the chooser
-
-pub write_synced-requires-clause-durable : goal.write_synced-requires-clause-durable
-write_synced-requires-clause-durable g c honest =
-    let old = c.args.disk.now in
-    let mid = c.write_area.new.disk in
-    let other = other_area (area_of c.args.self.now) in
-    let before = c.write_area.ensures.answer.honest_still.0 honest in
-    stays_durable Chooser other (λ is. other_is_area (area_of c.args.self.now) (sym is)) (g.D.Disk.view.seen old) (g.D.Disk.view.seen mid) (g.D.Disk.view.may_leave old) (g.D.Disk.view.may_leave mid) (λ bytes. ⊤) (c.requires.rests.chooser before) c.in_ok-gates.ensures.others
-    (now_in_run g.D.Disk.view old mid (InFileOnly other (g.D.Disk.view.may_leave old) (λ bytes. ⊤)) (λ start image le left. g.met.D.Disk.counts_now mid start image honest le left) (c.write_area.ensures.images before))
-
-pub returns-in_err-write_synced-clause-images : goal.returns-in_err-write_synced-clause-images
-returns-in_err-write_synced-clause-images g c kept keeps honest =
-    let old = c.args.disk.now in
-    let mid = c.write_area.new.disk in
-    let new = c.write_synced.new.disk in
-    let store = c.args.self.now in
-    let other = other_area (area_of store) in
-    let after = after_delta c.args.delta.now kept in
-    let there = c.write_area.ensures.answer.honest_still.1 honest in
-    let first = other_recoverable g.D.Disk.view old store c.requires.rests kept after (λ bytes. ⊤) keeps honest in
-    let rests = rests_in_other g.D.Disk.view old store c.requires.rests mid (λ bytes. ⊤) c.write_area.ensures.answer.honest_still.0 c.in_ok-gates.ensures.others
-    (λ is. now_in_run g.D.Disk.view old mid (InFileOnly other (g.D.Disk.view.may_leave old) (λ bytes. ⊤)) (λ start image le left. g.met.D.Disk.counts_now mid start image (c.write_area.ensures.answer.honest_still.1 is) le left) (c.write_area.ensures.images is)) in
-    let stand : BodiesStand store.size (bodies_of c.in_ok-gates.gates) after = subst (λ delta. BodiesStand store.size (bodies_of c.in_ok-gates.gates) (after_delta delta kept)) (sym c.in-Base.is) (c.in_ok-gates.ensures.stand kept keeps) in
-    let T = Torn 0 1 (file_of Chooser (g.D.Disk.view.seen mid)) in
-    let second = chooser_recoverable g.D.Disk.view mid store rests kept after T c.in_ok-gates.gates c.in_ok-gates.ensures.file c.in_ok-gates.ensures.rests keeps there stand in
-    two_runs g.D.Disk.view store.size kept after old mid new
-    (run_stands g.D.Disk.view store.size kept after old mid (InFileOnly other (g.D.Disk.view.may_leave old) (λ bytes. ⊤)) first (c.write_area.ensures.images honest))
-    (run_stands g.D.Disk.view store.size kept after mid new (InFileOnly Chooser (g.D.Disk.view.may_leave mid) T) second (c.write_synced.ensures.images there))
-
-pub returns-in_err-write_synced-clause-recoverable : goal.returns-in_err-write_synced-clause-recoverable
-returns-in_err-write_synced-clause-recoverable g c kept keeps honest =
-    let old = c.args.disk.now in
-    let mid = c.write_area.new.disk in
-    let new = c.write_synced.new.disk in
-    let store = c.args.self.now in
-    let other = other_area (area_of store) in
-    let after = after_delta c.args.delta.now kept in
-    let there = c.write_area.ensures.answer.honest_still.1 honest in
-    let first = other_recoverable g.D.Disk.view old store c.requires.rests kept after (λ bytes. ⊤) keeps honest in
-    let rests = rests_in_other g.D.Disk.view old store c.requires.rests mid (λ bytes. ⊤) c.write_area.ensures.answer.honest_still.0 c.in_ok-gates.ensures.others
-    (λ is. now_in_run g.D.Disk.view old mid (InFileOnly other (g.D.Disk.view.may_leave old) (λ bytes. ⊤)) (λ start image le left. g.met.D.Disk.counts_now mid start image (c.write_area.ensures.answer.honest_still.1 is) le left) (c.write_area.ensures.images is)) in
-    let stand : BodiesStand store.size (bodies_of c.in_ok-gates.gates) after = subst (λ delta. BodiesStand store.size (bodies_of c.in_ok-gates.gates) (after_delta delta kept)) (sym c.in-Base.is) (c.in_ok-gates.ensures.stand kept keeps) in
-    let T = Torn 0 1 (file_of Chooser (g.D.Disk.view.seen mid)) in
-    let second = chooser_recoverable g.D.Disk.view mid store rests kept after T c.in_ok-gates.gates c.in_ok-gates.ensures.file c.in_ok-gates.ensures.rests keeps there stand in
-    run_recoverable g.D.Disk.view store.size kept after mid new (InFileOnly Chooser (g.D.Disk.view.may_leave mid) T)
-    (λ start image le left. g.met.D.Disk.counts_now new start image (c.write_synced.ensures.honest.1 there) le left) second (c.write_synced.ensures.images there)
+pub returns-in-Base-clause-keeps : goal.returns-in-Base-clause-keeps
+returns-in-Base-clause-keeps g c kept keeps =
+    subst (λ delta. OnOk c.save_base.result (StoreKeeps c.save_base.new.self (after_delta delta kept))) (sym c.in-Base.is) (c.save_base.ensures.keeps kept keeps)
 
 pub returns-in-Base-clause-images : goal.returns-in-Base-clause-images
 returns-in-Base-clause-images g c kept keeps honest =
-    let old = c.args.disk.now in
-    let mid = c.write_area.new.disk in
-    let new = c.write_synced.new.disk in
-    let store = c.args.self.now in
-    let other = other_area (area_of store) in
-    let after = after_delta c.args.delta.now kept in
-    let there = c.write_area.ensures.answer.honest_still.1 honest in
-    let first = other_recoverable g.D.Disk.view old store c.requires.rests kept after (λ bytes. ⊤) keeps honest in
-    let rests = rests_in_other g.D.Disk.view old store c.requires.rests mid (λ bytes. ⊤) c.write_area.ensures.answer.honest_still.0 c.in_ok-gates.ensures.others
-    (λ is. now_in_run g.D.Disk.view old mid (InFileOnly other (g.D.Disk.view.may_leave old) (λ bytes. ⊤)) (λ start image le left. g.met.D.Disk.counts_now mid start image (c.write_area.ensures.answer.honest_still.1 is) le left) (c.write_area.ensures.images is)) in
-    let stand : BodiesStand store.size (bodies_of c.in_ok-gates.gates) after = subst (λ delta. BodiesStand store.size (bodies_of c.in_ok-gates.gates) (after_delta delta kept)) (sym c.in-Base.is) (c.in_ok-gates.ensures.stand kept keeps) in
-    let T = Torn 0 1 (file_of Chooser (g.D.Disk.view.seen mid)) in
-    let second = chooser_recoverable g.D.Disk.view mid store rests kept after T c.in_ok-gates.gates c.in_ok-gates.ensures.file c.in_ok-gates.ensures.rests keeps there stand in
-    two_runs g.D.Disk.view store.size kept after old mid new
-    (run_stands g.D.Disk.view store.size kept after old mid (InFileOnly other (g.D.Disk.view.may_leave old) (λ bytes. ⊤)) first (c.write_area.ensures.images honest))
-    (run_stands g.D.Disk.view store.size kept after mid new (InFileOnly Chooser (g.D.Disk.view.may_leave mid) T) second (c.write_synced.ensures.images there))
+    subst (λ delta. LeavesOnly g.D.Disk.view c.args.disk.now c.save_base.new.disk (FilesStandForEither c.args.self.now.size kept (after_delta delta kept))) (sym c.in-Base.is)
+    (c.save_base.ensures.images kept keeps honest)
 
 pub returns-in-Base-clause-recoverable : goal.returns-in-Base-clause-recoverable
 returns-in-Base-clause-recoverable g c kept keeps honest =
-    let old = c.args.disk.now in
-    let mid = c.write_area.new.disk in
-    let new = c.write_synced.new.disk in
-    let store = c.args.self.now in
-    let other = other_area (area_of store) in
-    let after = after_delta c.args.delta.now kept in
-    let there = c.write_area.ensures.answer.honest_still.1 honest in
-    let first = other_recoverable g.D.Disk.view old store c.requires.rests kept after (λ bytes. ⊤) keeps honest in
-    let rests = rests_in_other g.D.Disk.view old store c.requires.rests mid (λ bytes. ⊤) c.write_area.ensures.answer.honest_still.0 c.in_ok-gates.ensures.others
-    (λ is. now_in_run g.D.Disk.view old mid (InFileOnly other (g.D.Disk.view.may_leave old) (λ bytes. ⊤)) (λ start image le left. g.met.D.Disk.counts_now mid start image (c.write_area.ensures.answer.honest_still.1 is) le left) (c.write_area.ensures.images is)) in
-    let stand : BodiesStand store.size (bodies_of c.in_ok-gates.gates) after = subst (λ delta. BodiesStand store.size (bodies_of c.in_ok-gates.gates) (after_delta delta kept)) (sym c.in-Base.is) (c.in_ok-gates.ensures.stand kept keeps) in
-    let T = Torn 0 1 (file_of Chooser (g.D.Disk.view.seen mid)) in
-    let second = chooser_recoverable g.D.Disk.view mid store rests kept after T c.in_ok-gates.gates c.in_ok-gates.ensures.file c.in_ok-gates.ensures.rests keeps there stand in
-    run_recoverable g.D.Disk.view store.size kept after mid new (InFileOnly Chooser (g.D.Disk.view.may_leave mid) T)
-    (λ start image le left. g.met.D.Disk.counts_now new start image (c.write_synced.ensures.honest.1 there) le left) second (c.write_synced.ensures.images there)
+    subst (λ delta. IsRecoverable c.args.self.now.size kept (after_delta delta kept) (g.D.Disk.view.may_leave c.save_base.new.disk)) (sym c.in-Base.is)
+    (c.save_base.ensures.recoverable kept keeps honest)
 
-pub returns-in_err-write_synced-clause-memory : goal.returns-in_err-write_synced-clause-memory
-returns-in_err-write_synced-clause-memory g c memory =
-    let old = c.args.disk.now in
-    let mid = c.write_area.new.disk in
-    let new = c.write_synced.new.disk in
+pub returns-in-Base-clause-told : goal.returns-in-Base-clause-told
+returns-in-Base-clause-told g c kept own stand =
     let store = c.args.self.now in
-    let other = other_area (area_of store) in
-    let rests = rests_in_other g.D.Disk.view old store c.requires.rests mid (λ bytes. ⊤) c.write_area.ensures.answer.honest_still.0 c.in_ok-gates.ensures.others
-    (λ is. now_in_run g.D.Disk.view old mid (InFileOnly other (g.D.Disk.view.may_leave old) (λ bytes. ⊤)) (λ start image le left. g.met.D.Disk.counts_now mid start image (c.write_area.ensures.answer.honest_still.1 is) le left) (c.write_area.ensures.images is)) in
-    let T = Torn 0 1 (file_of Chooser (g.D.Disk.view.seen mid)) in
-    let only : g.D.Disk.view.honest mid → (image : Image) → g.D.Disk.view.may_leave new image → InFileOnly Chooser (g.D.Disk.view.may_leave mid) T image = λ is. now_in_run g.D.Disk.view mid new (InFileOnly Chooser (g.D.Disk.view.may_leave mid) T) (λ start image le left. g.met.D.Disk.counts_now new start image (c.write_synced.ensures.honest.1 is) le left) (c.write_synced.ensures.images is) in
-    let none = handed_on c.in_err-write_synced.field-0.0 c.write_synced.result c.from_residual-in_err-write_synced.result c.in_err-write_synced.was c.from_residual-in_err-write_synced.ensures.1 memory in
-    rests_in_chooser g.D.Disk.view mid store rests new T c.write_synced.ensures.honest.0 (c.write_synced.ensures.unchanged none) (c.write_synced.ensures.still_durable none) only
+    subst (λ delta. TellsThen (MadeCalls of_disk (save_calls (area_of store) (length (records_of store)) kept own delta) c.save_base.result) (g.D.Disk.view.told c.args.disk.now) (g.D.Disk.view.told c.save_base.new.disk)) (sym c.in-Base.is)
+    (c.save_base.ensures.told kept own stand)
 
-pub returns-in-Base-clause-keeps : goal.returns-in-Base-clause-keeps
-returns-in-Base-clause-keeps g c kept keeps = subst (λ delta. BodiesStand c.args.self.now.size (bodies_of c.in_ok-gates.gates) (after_delta delta kept)) (sym c.in-Base.is) (c.in_ok-gates.ensures.stand kept keeps)
+pub returns-in-Base-clause-area : goal.returns-in-Base-clause-area
+returns-in-Base-clause-area g c =
+    subst (λ delta. OnOk c.save_base.result (area_of c.save_base.new.self ≡ area_after delta (area_of c.args.self.now))) (sym c.in-Base.is) c.save_base.ensures.area
 
-pub returns-in-Base-clause-rests : goal.returns-in-Base-clause-rests
-returns-in-Base-clause-rests g c =
-    let old = c.args.disk.now in
-    let mid = c.write_area.new.disk in
-    let new = c.write_synced.new.disk in
-    let store = c.args.self.now in
-    let other = other_area (area_of store) in
-    let rests = rests_in_other g.D.Disk.view old store c.requires.rests mid (λ bytes. ⊤) c.write_area.ensures.answer.honest_still.0 c.in_ok-gates.ensures.others
-    (λ is. now_in_run g.D.Disk.view old mid (InFileOnly other (g.D.Disk.view.may_leave old) (λ bytes. ⊤)) (λ start image le left. g.met.D.Disk.counts_now mid start image (c.write_area.ensures.answer.honest_still.1 is) le left) (c.write_area.ensures.images is)) in
-    let T = Torn 0 1 (file_of Chooser (g.D.Disk.view.seen mid)) in
-    let only : g.D.Disk.view.honest mid → (image : Image) → g.D.Disk.view.may_leave new image → InFileOnly Chooser (g.D.Disk.view.may_leave mid) T image = λ is. now_in_run g.D.Disk.view mid new (InFileOnly Chooser (g.D.Disk.view.may_leave mid) T) (λ start image le left. g.met.D.Disk.counts_now new start image (c.write_synced.ensures.honest.1 is) le left) (c.write_synced.ensures.images is) in
-    let gates = c.in_ok-gates.gates in
-    let keeps = c.requires.rests.keeps in
-    let differs : file_no gates ≢ Chooser = λ is. other_is_area (area_of store) (sym c.in_ok-gates.ensures.file ∙ is) in
-    let byte = subst (λ bit. InFile Chooser (HoldsPiece 0 (bit ∷ [])) (g.D.Disk.view.seen mid) (g.D.Disk.view.seen new)) (c.bit_of.ensures ∙ ap bit_of c.file.ensures) c.in_ok-write_synced.ensures.written in
-    rests_by_chooser g.D.Disk.view mid store rests new (record { alloc = store.alloc; size = store.size; gates = gates }) T c.write_synced.ensures.honest.0 differs c.in_ok-gates.ensures.rests byte c.in_ok-write_synced.ensures.durable only
-    (after_delta c.args.delta.now keeps.0, subst (λ delta. BodiesStand store.size (bodies_of gates) (after_delta delta keeps.0)) (sym c.in-Base.is) (c.in_ok-gates.ensures.stand keeps.0 keeps.1))
+pub returns-in-Base-clause-base_spelled : goal.returns-in-Base-clause-base_spelled
+returns-in-Base-clause-base_spelled g c kept own slot rows stand is stopped =
+    same_base_spelled c.args.delta.now kept own c.in-Base.slot slot c.in-Base.rows rows c.in-Base.is is (c.save_base.ensures.spelled kept own stand stopped)
+
+pub returns-in-Base-clause-format : goal.returns-in-Base-clause-format
+returns-in-Base-clause-format g c was = c.save_base.ensures.still was
 
 -- ---- a record
 
@@ -242,7 +122,7 @@ returns-in_err-append-clause-memory g c memory =
     let P = IsStaged (bodies_of store.gates) (Some c.record_bytes.result) in
     let only : g.D.Disk.view.honest old → (image : Image) → g.D.Disk.view.may_leave new image → InFileOnly (area_of store) (g.D.Disk.view.may_leave old) P image =
     λ is. now_in_run g.D.Disk.view old new (InFileOnly (area_of store) (g.D.Disk.view.may_leave old) P) (λ start image le left. g.met.D.Disk.counts_now new start image (c.append.ensures.answer.honest_still.1 is) le left) (c.append.ensures.images is) in
-    let none = gates_handed_on c.in_err-append.field-0.0 c.append.result c.from_residual-in_err-append.result c.in_err-append.was c.from_residual-in_err-append.ensures.1 memory in
+    let none = gates_handed_on c.in_err-append.field-0.0 c.append.result c.from_residual.result c.in_err-append.was c.from_residual.ensures.1 memory in
     rests_in_area g.D.Disk.view old store c.requires.rests new now P c.append.ensures.answer.honest_still.0 (c.append.ensures.memory none) c.append.ensures.file (c.append.ensures.memory_others none) only
     (keeps.0, subst (λ bodies. BodiesStand store.size bodies keeps.0) (sym c.in_err-append.ensures.kept) keeps.1)
 
@@ -271,58 +151,6 @@ returns-clause-rests g c =
 
 -- ---- which calls were done
 
-pub returns-in_err-gates-clause-told : goal.returns-in_err-gates-clause-told
-returns-in_err-gates-clause-told g c kept own stand =
-    let store = c.args.self.now in
-    let area = area_of store in
-    let count = length (records_of store) in
-    let old = g.D.Disk.view.told c.args.disk.now in
-    let other = other_area area in
-    let new = g.D.Disk.view.told c.write_area.new.disk in
-    let given = c.in_err-gates.field-0.0 in
-    let result = c.from_residual.result in
-    let records = rewrite_calls other (map record_bytes (base_records kept own c.in-Base.slot c.in-Base.rows)) in
-    subst (λ delta. TellsThen (MadeCalls of_disk (save_calls area count kept own delta) result) old new) (sym c.in-Base.is)
-    (tells_weaker (made_sooner of_disk of_disk records (choose_calls other) (Err given) result c.from_residual.ensures.0
-    (λ fault is. handed result given c.from_residual.ensures.1 (of_disk fault) is)) old new (c.in_err-gates.ensures.told kept own stand))
-
-pub returns-in_err-write_synced-clause-told : goal.returns-in_err-write_synced-clause-told
-returns-in_err-write_synced-clause-told g c kept own stand =
-    let store = c.args.self.now in
-    let area = area_of store in
-    let count = length (records_of store) in
-    let old = g.D.Disk.view.told c.args.disk.now in
-    let other = other_area area in
-    let records = rewrite_calls other (map record_bytes (base_records kept own c.in-Base.slot c.in-Base.rows)) in
-    let mid = g.D.Disk.view.told c.write_area.new.disk in
-    let new = g.D.Disk.view.told c.write_synced.new.disk in
-    let written = tells_weaker (made_done of_disk records c.in_ok-gates.gates) old mid (c.in_ok-gates.ensures.told kept own stand) in
-    let bit = c.bit_of.ensures ∙ ap bit_of (c.file.ensures ∙ c.in_ok-gates.ensures.file) in
-    let given = c.in_err-write_synced.field-0.0 in
-    let result = c.from_residual-in_err-write_synced.result in
-    let chosen : TellsThen (AfterWriteSynced Chooser 0 (bit_of other ∷ []) (Err given)) mid new =
-    subst (λ b. TellsThen (AfterWriteSynced Chooser 0 (b ∷ []) (Err given)) mid new) bit c.in_err-write_synced.ensures.told in
-    subst (λ delta. TellsThen (MadeCalls of_disk (save_calls area count kept own delta) result) old new) (sym c.in-Base.is)
-    (tells_then (λ one two three first broken. made_later of_disk of_disk records (choose_calls other) result result c.from_residual-in_err-write_synced.ensures.0 (λ fault is. is) one two three first
-    (made_some of_disk (choose_calls other) given result disk_apart c.from_residual-in_err-write_synced.ensures.1 two three (write_breaks given Chooser 0 (bit_of other ∷ []) [] two three broken))) old mid new written chosen)
-
-pub returns-in-Base-clause-told : goal.returns-in-Base-clause-told
-returns-in-Base-clause-told g c kept own stand =
-    let store = c.args.self.now in
-    let area = area_of store in
-    let count = length (records_of store) in
-    let old = g.D.Disk.view.told c.args.disk.now in
-    let other = other_area area in
-    let records = rewrite_calls other (map record_bytes (base_records kept own c.in-Base.slot c.in-Base.rows)) in
-    let mid = g.D.Disk.view.told c.write_area.new.disk in
-    let new = g.D.Disk.view.told c.write_synced.new.disk in
-    let written = tells_weaker (made_done of_disk records c.in_ok-gates.gates) old mid (c.in_ok-gates.ensures.told kept own stand) in
-    let bit = c.bit_of.ensures ∙ ap bit_of (c.file.ensures ∙ c.in_ok-gates.ensures.file) in
-    let chosen : TellsThen (AfterWriteSynced Chooser 0 (bit_of other ∷ []) (Ok tt)) mid new =
-    subst (λ b. TellsThen (AfterWriteSynced Chooser 0 (b ∷ []) (Ok tt)) mid new) bit c.in_ok-write_synced.ensures.told in
-    subst (λ delta. TellsThen (MadeCalls of_disk (save_calls area count kept own delta) (Ok tt)) old new) (sym c.in-Base.is)
-    (tells_then (λ one two three first last. made_all of_disk (records ++ choose_calls other) tt one three (all_then records (choose_calls other) one two three first (write_done Chooser 0 (bit_of other ∷ []) two three last))) old mid new written chosen)
-
 pub returns-in_err-append-clause-told : goal.returns-in_err-append-clause-told
 returns-in_err-append-clause-told g c kept own stand =
     let store = c.args.self.now in
@@ -333,11 +161,11 @@ returns-in_err-append-clause-told g c kept own stand =
     let item = c.in-Some.item in
     let calls = saves_record area count kept own c.args.delta.now item (sym c.delta_record.ensures ∙ c.in-Some.is) in
     let given = c.in_err-append.field-0.0 in
-    let result = c.from_residual-in_err-append.result in
+    let result = c.from_residual.result in
     subst (λ list. TellsThen (MadeCalls of_disk list result) old new) (sym calls)
     (subst (λ body. TellsThen (MadeCalls of_disk (append_calls area count body) result) old new) c.record_bytes.ensures.spelled
-    (tells_weaker (made_sooner gate_fault_of of_disk (append_calls area count c.record_bytes.result) [] (Err given) result c.from_residual-in_err-append.ensures.0
-    (gates_handed result given c.from_residual-in_err-append.ensures.1)) old new c.in_err-append.ensures.told))
+    (tells_weaker (made_sooner gate_fault_of of_disk (append_calls area count c.record_bytes.result) [] (Err given) result c.from_residual.ensures.0
+    (gates_handed result given c.from_residual.ensures.1)) old new c.in_err-append.ensures.told))
 
 pub returns-clause-told : goal.returns-clause-told
 returns-clause-told g c kept own stand =
@@ -354,18 +182,18 @@ returns-clause-told g c kept own stand =
 
 -- ---- the area that it goes on in
 
-pub returns-in-Base-clause-area : goal.returns-in-Base-clause-area
-returns-in-Base-clause-area g c = c.in_ok-gates.ensures.file ∙ ap (λ delta. area_after delta (area_of c.args.self.now)) (sym c.in-Base.is)
-
 pub returns-clause-area : goal.returns-clause-area
 returns-clause-area g c = c.append.ensures.file ∙ sym (stays_in_area (area_of c.args.self.now) c.args.delta.now c.in-Some.item (sym c.delta_record.ensures ∙ c.in-Some.is))
 
 -- ---- what is spelled
 
-pub returns-in_err-gates-clause-base_spelled : goal.returns-in_err-gates-clause-base_spelled
-returns-in_err-gates-clause-base_spelled g c kept own slot rows stand is stopped =
-    same_base_spelled c.args.delta.now kept own c.in-Base.slot slot c.in-Base.rows rows c.in-Base.is is (c.write_area.ensures.stopped_spelled kept own stand (search rules))
+-- ---- its format
 
-pub returns-in_err-write_synced-clause-base_spelled : goal.returns-in_err-write_synced-clause-base_spelled
-returns-in_err-write_synced-clause-base_spelled g c kept own slot rows stand is stopped =
-    same_base_spelled c.args.delta.now kept own c.in-Base.slot slot c.in-Base.rows rows c.in-Base.is is (c.in_ok-gates.ensures.spelled kept own stand)
+pub returns-in_err-append-clause-format : goal.returns-in_err-append-clause-format
+returns-in_err-append-clause-format g c was begins = was (subst (BeginsInFormat1 c.args.self.now.size) c.in_err-append.ensures.kept begins)
+
+pub returns-clause-format : goal.returns-clause-format
+returns-clause-format g c was begins =
+    let store = c.args.self.now in
+    change_in_format_2 store.size (bodies_of store.gates) c.record_bytes.result c.in-Some.item c.args.delta.now (sym c.delta_record.ensures ∙ c.in-Some.is) c.record_bytes.ensures.is_record was
+    (subst (BeginsInFormat1 store.size) c.in_ok-append.ensures.bodies begins)

@@ -6,7 +6,7 @@ use Rattle.disk_model.specs.Told.{TellsThen}
 use Rattle.disk_model.proofs.MadeLemmas.{made_all, made_done, made_sooner, tells_weaker}
 use Rattle.gate_file.specs.Faults.{gate_fault_of}
 use Rattle.gate_file.specs.Made.{rewrite_calls}
-use Rattle.store_format.specs.Area.{base_records}
+use Rattle.store_format.specs.Area.{BeginsInFormat1, base_records}
 use Rattle.store_format.specs.Records.{record_bytes}
 use Rattle.replica_store.specs.Faults.{of_disk}
 use Rattle.replica_store.specs.Files.{other_area}
@@ -71,3 +71,10 @@ returns-clause-spelled g c kept own stand =
     let store = c.args.self.now in
     let same = c.in_ok-kept.ensures.only kept own (subst (λ bodies. StandFor store.size bodies kept own) (sym c.bodies.ensures) stand) in
     base_is_spelled c.in_ok-bodies.bodies.items c.in_ok-kept.kept kept c.in_ok-kept.own own c.args.slot c.args.rows.now c.in_ok-bodies.ensures.bodies c.in_ok-bodies.ensures.records same.0 same.1
+
+-- ---- its format
+
+pub returns-clause-format : goal.returns-clause-format
+returns-clause-format g c begins =
+    let size = c.args.self.now.size in
+    c.in_ok-bodies.ensures.format size c.requires.rows (subst (BeginsInFormat1 size) c.in_ok-rewrite.ensures.bodies begins)

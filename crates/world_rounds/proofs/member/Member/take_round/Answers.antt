@@ -3,6 +3,13 @@ use Rattle.history.specs.declared.turn.Cause.TheVariants.{Tick}
 use Rattle.world_rounds.proofs.RoundLemmas.{may_answer, may_hear, round_skipped, round_taken, told_tick}
 use Rattle.world_rounds.proofs.member.Member.take_round.Goals as goal
 
+pub hear_letters-requires : goal.hear_letters-requires
+hear_letters-requires g c =
+    let may = c.requires.may in
+    let answered = c.in_ok-take_answer.ensures.beside may.rows may.who (may_answer g.D.Disk.view c.args.table.now c.args.book.now may.rows may.situation may.who c.args.self.now may.idle c.if-not-self.false) in
+    let hears = may_hear g.D.Disk.view c.args.table.now c.args.book.now may.rows may.situation may.who c.args.self.now c.take_answer.new.steps.items c.take_answer.new.node may.idle answered in
+    record { may = (may.rows, may.who, rw c.deref.ensures.value hears) }
+
 pub keep_step-requires : goal.keep_step-requires
 keep_step-requires g c =
     let may = c.requires.may in
