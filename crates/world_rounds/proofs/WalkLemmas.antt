@@ -1,5 +1,5 @@
 -- Walks, in a world.
-use Rattle.std.proofs.Common.{◌≡◌, ℕ, zero, suc, ◌+◌, ◌<◌, ◌≤◌, true, false, List, [], ◌++◌, ℤ, pos, negsuc, ◌+ℤ◌, ◌≤ℤ◌, ◌<ℤ◌, refl, sym, ap, ◌∙◌, subst, inl, inr, arith, append_assoc, append-nil as append_nil}
+use Rattle.std.proofs.Common.{◌≡◌, ℕ, zero, suc, ◌+◌, ◌<◌, ◌≤◌, true, false, List, [], ◌++◌, ℤ, pos, negsuc, ◌+ℤ◌, ◌≤ℤ◌, ◌<ℤ◌, None, Some, ◌⊎◌, length, refl, sym, ap, ◌∙◌, subst, inl, inr, arith, append_assoc, append-nil as append_nil}
 use Rattle.std.specs.Prelude.{unsigned_abs, ◌-ℤ◌}
 use Rattle.std.specs.Int.{int_min}
 use Rattle.std.proofs.lemmas.Int.{clamps, ints}
@@ -13,21 +13,55 @@ use Rattle.script_semantics.specs.Settling.{AsksNothing, AsksNothingUntil, Drain
 use Rattle.script_semantics.specs.Situation.{Situation}
 use Rattle.step_spec.specs.State.{State}
 use Rattle.world_rounds.specs.Quiet.{AllRun, IsIn, AnswersFor}
-use Rattle.world_rounds.specs.Walking.{WalkedOn}
+use Rattle.world_rounds.specs.Walking.{AsksNothingIn, IsNoneOpen, WalkedOn}
 use Rattle.world_rounds.specs.World.{GoesOnBy, IsWorld, IsWorldAt}
 use Rattle.world_rounds.specs.declared.world.World.{World}
-use Rattle.std.proofs.lemmas.Bool.{cases_eq}
+use Rattle.std.proofs.lemmas.Bool.{cases_eq, cases_lt}
+use Rattle.std.proofs.lemmas.Option.{slice_get_within}
+use Rattle.std.specs.List.{slice_get}
+use Rattle.launch_machine.specs.Clerk.{TakesStart}
+use Rattle.launch_machine.specs.Next.{StartsNoMore}
+use Rattle.replica_core.specs.Replica.{ReplicaState}
+use Rattle.replica_core.specs.Step.{IsOfTable}
+use Rattle.replica_node.specs.Node.{replica_of}
+use Rattle.world_rounds.specs.declared.member.Member.{Member}
+use Rattle.world_rounds.proofs.QuietLemmas.{asks_none, node_state}
 
--- at each of the minutes from one on, and before another, the table asks for nothing
-abbrev pub AsksNothingIn : Table → (first end : ℕ) → State → Type 0
-AsksNothingIn table first end state = (minute : ℕ) → first ≤ minute → minute < end → AsksNothing table (pos minute) state
-
-pub asks_none_next : (table : Table) (first minute : ℕ) (state : State) → AsksNothingIn table first minute state → AsksNothing table (pos minute) state
-    → AsksNothingIn table first (minute + 1) state
-asks_none_next table first minute state so_far here = λ other from below. elim (cases_eq other minute) [
+-- at one more minute, and from there to another, it asks for nothing
+pub asks_none_on : (table : Table) (first minute end : ℕ) (state : State) → AsksNothingIn table first minute state → AsksNothing table (pos minute) state
+    → AsksNothingIn table (minute + 1) end state → AsksNothingIn table first end state
+asks_none_on table first minute end state so_far here behind = λ other from below. elim (cases_eq other minute) [
   | inl same ↦ subst (λ m. AsksNothing table (pos m) state) (sym same) here
-  | inr differs ↦ so_far other from (omega arith)
+  | inr differs ↦ elim (cases_lt other minute) [
+    | inl before ↦ so_far other from before
+    | inr after ↦ behind other (omega (arith, after, differs)) below
+  ]
 ]
+
+-- ---- until the next start
+
+-- where no launch is open, and no start takes effect before an instant, nothing is asked for before it
+pub none_before : (table : Table) (replica : ReplicaState) (first : ℤ) (minute end : ℕ) → IsOfTable table replica → IsNoneOpen table replica.machine.rows
+    → ((job : ℕ) (at now : ℤ) → TakesStart table replica.machine.rows job at now → first ≤ℤ now) → (end ≤ minute + 1) ⊎ (pos end ≤ℤ first)
+    → AsksNothingIn table (minute + 1) end replica.state
+none_before table replica first minute end of_table none_open least ends = λ other from below. elim ends [
+  | inl empty ↦ absurd (omega (arith, from, below, empty))
+  | inr before ↦ asks_none table (pos other) replica of_table (
+    λ job at may.
+        let within : job < length table.jobs = slice_get_within table.jobs job may.spec may.is_in.is_job in
+        let none : may.row.open_now ≡ None = none_open job may.row within may.is_row in
+        let both : Some may.since ≡ None = sym may.is_open ∙ none in cc,
+    λ job at takes.
+        let late = least job at (pos other) takes in
+        omega (arith, ints, late, before, below),
+  )
+]
+
+-- where none takes effect any more, nothing is asked for at all
+pub none_at_all : (table : Table) (replica : ReplicaState) (minute end : ℕ) → IsOfTable table replica → IsNoneOpen table replica.machine.rows
+    → StartsNoMore table replica.machine.rows → AsksNothingIn table (minute + 1) end replica.state
+none_at_all table replica minute end of_table none_open no_more =
+    none_before table replica (pos end) minute end of_table none_open (λ job at now takes. absurd (no_more job at now takes)) (inr (omega (arith, ints)))
 
 -- what holds of the minutes from a number on holds of those above a minute
 number_at : (above : ℤ) (first : ℕ) (other : ℤ) → pos first ≡ above +ℤ pos 1 → pos 0 ≤ℤ above → above <ℤ other → (minute : ℕ) × (other ≡ pos minute) × (first ≤ minute)
@@ -107,10 +141,17 @@ module _ {D : Type 0} (view : DiskView D) (table : Table) where
   pub rests_first : (world : World D) (who first : ℕ) → RestsIn world who first first
   rests_first world who first = λ situation here minute from below. absurd (omega arith)
 
-  pub rests_next : (world : World D) (who first minute : ℕ) → RestsIn world who first minute
-      → AnswersFor view table (λ situation. AsksNothing table (pos minute) (situation.standing.replicas who)) world true → RestsIn world who first (minute + 1)
-  rests_next world who first minute so_far tells = λ situation here.
-      asks_none_next table first minute (situation.standing.replicas who) (so_far situation here) ((tells here.0 situation here.1).0 refl)
+  pub rests_on : (world : World D) (who first minute end : ℕ) → RestsIn world who first minute
+      → AnswersFor view table (λ situation. AsksNothing table (pos minute) (situation.standing.replicas who)) world true → RestsIn world who (minute + 1) end
+      → RestsIn world who first end
+  rests_on world who first minute end so_far tells behind = λ situation here.
+      asks_none_on table first minute end (situation.standing.replicas who) (so_far situation here) ((tells here.0 situation here.1).0 refl) (behind situation here)
+
+  -- what is told of the minutes of its replica
+  pub rests_of : (world : World D) (who first end : ℕ) (member : Member D) → AllRun world → slice_get world.members.items who ≡ Some member
+      → AsksNothingIn table first end (replica_of member.node).state → RestsIn world who first end
+  rests_of world who first end member run there none = λ situation here.
+      subst (AsksNothingIn table first end) (node_state view table here.0 world situation who member here.1 there (run who member there)) none
 
   pub minute_found : (world : World D) (who : ℕ) (above to : ℤ) (first minute : ℕ) → pos first ≡ above +ℤ pos 1 → pos 0 ≤ℤ above → RestsIn world who first minute → first ≤ minute → pos minute ≤ℤ to
       → AnswersFor view table (λ situation. AsksNothing table (pos minute) (situation.standing.replicas who)) world false

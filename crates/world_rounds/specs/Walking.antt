@@ -1,9 +1,19 @@
 -- How a walk goes on, in a world.
-use Rattle.std.specs.Prelude.{ℕ, List, ◌++◌, ℤ}
+use Rattle.std.specs.Prelude.{◌≡◌, ℕ, ◌<◌, ◌≤◌, List, ◌++◌, length, ℤ, pos, None, Some, slice_get}
 use Rattle.due_set.specs.Table.{Table}
 use Rattle.history.specs.Book.{Row}
-use Rattle.script_semantics.specs.Settling.{WalksOn}
+use Rattle.paxos_base.specs.declared.rows.JobRow.{JobRow}
+use Rattle.script_semantics.specs.Settling.{AsksNothing, WalksOn}
 use Rattle.script_semantics.specs.Situation.{Situation}
+use Rattle.step_spec.specs.State.{State}
+
+-- no job has a launch open
+abbrev pub IsNoneOpen : Table → List JobRow → Type 0
+IsNoneOpen table rows = (job : ℕ) (row : JobRow) → job < length table.jobs → slice_get rows job ≡ Some row → row.open_now ≡ None
+
+-- at each of the minutes from one on, and before another, the launch table asks for nothing
+abbrev pub AsksNothingIn : Table → (first end : ℕ) → State → Type 0
+AsksNothingIn table first end state = (minute : ℕ) → first ≤ minute → minute < end → AsksNothing table (pos minute) state
 
 -- **What has come belongs to a walk**, of which the last drain was at the minute above: however the walk goes on from here, so it goes on
 -- from the start.

@@ -1,19 +1,22 @@
 //! Walking: from one minute at which there is something to do to the next.
-ghost use Rattle.std.specs.Prelude.{◌≡◌, ◌<◌, ◌≤ℤ◌, ◌+ℤ◌, pos, IfNone, IfSome, OnOk, OnErr, length};
+ghost use Rattle.std.specs.Prelude.{◌≡◌, ◌⊎◌, ◌+◌, ◌<◌, ◌≤◌, ◌^◌, ◌≤ℤ◌, ◌+ℤ◌, pos, false, IfNone, IfSome, OnOk, OnErr, length};
 ghost use Rattle.std.specs.Int.{int_min};
 ghost use Rattle.zone_minutes.specs.Window.{IsInWindow};
 ghost use Rattle.script_semantics.specs.Settling.{AsksNothingUntil, IsNextMinute, Walks, WalksOn};
 ghost use Rattle.script_semantics.specs.Situation.{Situation};
+ghost use Rattle.replica_core.specs.Step.{IsOfTable};
 ghost use Rattle.settling.specs.Settles.{LeadsNow};
 ghost use Rattle.world_rounds.specs.Bounds.{IsBookBounded, IsFaultlessIn};
 ghost use Rattle.world_law.specs.Book.{IsLegalBook};
 ghost use Rattle.world_rounds.specs.Quiet.{AllRun, IsIn};
+ghost use Rattle.world_rounds.specs.Walking.{AsksNothingIn, IsNoneOpen};
 ghost use Rattle.world_rounds.specs.World.{GoesOnBy, IsWorld, book_of};
 
 use crate::world::World;
 use cron_io::OutOfMemory;
 use disk_model::Disk;
 use due_set::JobTable;
+use replica_core::Replica;
 use zone_minutes::Minute;
 
 // The number of the minute behind another.
@@ -32,7 +35,59 @@ fn earlier_of(one: Minute, other: Minute) -> Minute
     one.min(other)
 }
 
+// The number of a minute where that is later than this number, as far as 32 bits go.
+fn later_number(number: u32, minute: Minute) -> u32
+    ensures least { number ≤ result }
+    ensures most { (result ≤ number) ⊎ (pos result ≤ℤ minute.0) }
+{
+    minute.0.clamp(i64::from(number), i64::from(u32::MAX)) as u32
+}
+
+// Whether a launch is open.
+fn is_any_open(replica: &Replica, table: &JobTable) -> bool
+    requires of_table { IsOfTable table.now replica.now }
+    ensures { result ≡ false → IsNoneOpen table.now replica.now.machine.rows }
+{
+    'jobs: for job in 0..table.jobs() {
+        if replica.machine().row(job).open_now.is_some() {
+            return true;
+        }
+    }
+    false
+}
+
+// The number of a later minute than this one, between which and it the launch table asks for nothing: that of the next
+// start, where no launch is open.
+fn next_to_look_at(replica: &Replica, table: &JobTable, minute: u32) -> u32
+    requires of_table { IsOfTable table.now replica.now }
+    requires low { minute < 2 ^ 31 }
+    ensures later { minute < result }
+    ensures none { AsksNothingIn table.now (minute + 1) result replica.now.state }
+{
+    let later = minute + 1;
+    if is_any_open(replica, table) {
+        return later;
+    }
+    match replica.machine().next_start() {
+        Some(first) => later_number(later, first),
+        None => u32::MAX,
+    }
+}
+
 impl<D: Disk> World<D> {
+    // The number of a later minute than this one, between which and it the launch table of a replica asks for nothing.
+    fn next_to_look_at(&self, table: &JobTable, who: u8, minute: u32) -> u32
+        requires world { IsWorld D.view table.now self.now }
+        requires run { AllRun self.now }
+        requires member { who < length self.now.members.items }
+        requires low { minute < 2 ^ 31 }
+        ensures later { minute < result }
+        ensures none { (situation : Situation) → IsIn D.view table.now self.now situation
+            → AsksNothingIn table.now (minute + 1) result (situation.standing.replicas who) }
+    {
+        next_to_look_at(self.members[who as usize].node.replica(), table, minute)
+    }
+
     // The first minute above one, and at most another, at which the launch table of a replica asks for something.
     fn next_minute(&self, table: &JobTable, who: u8, above: Minute, to: Minute) -> Option<Minute>
         requires world { IsWorld D.view table.now self.now }
@@ -47,11 +102,13 @@ impl<D: Disk> World<D> {
     {
         let first = number_behind(above);
         let end = number_behind(to);
-        'minutes: for minute in first..end {
-            let minute = Minute(i64::from(minute));
+        let mut number = first;
+        'minutes: while number < end {
+            let minute = Minute(i64::from(number));
             if !self.asks_nothing(table, who, minute) {
                 return Some(minute);
             }
+            number = self.next_to_look_at(table, who, number);
         }
         None
     }
