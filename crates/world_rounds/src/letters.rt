@@ -1,7 +1,7 @@
 //! What commands do to the letters that wait: they are lost, turned round, or join their mail once more.
-ghost use Rattle.std.specs.Prelude.{◌≡◌, ◌<◌, ◌&&◌, not, IfOk, OnOk, length, map, slice_get};
+ghost use Rattle.std.specs.Prelude.{◌≡◌, ◌<◌, IfOk, OnOk, length, map, slice_get};
 ghost use Rattle.due_set.specs.Table.{Table};
-ghost use Rattle.script_semantics.specs.Commands.{each_once, from_one, from_others, has_number, is_from, set_by};
+ghost use Rattle.script_semantics.specs.Commands.{each_once, from_one, from_others, is_from, set_by};
 ghost use Rattle.script_text.specs.declared.command.Command.TheVariants as command;
 ghost use Rattle.world_law.specs.Book.{posted_as};
 ghost use Rattle.world_rounds.specs.Mails.{Changes};
@@ -10,6 +10,7 @@ ghost use Rattle.world_rounds.specs.World.{IsWorld, book_of};
 use crate::world::World;
 use cron_io::OutOfMemory;
 use disk_model::Disk;
+use indexmap::IndexSet;
 use std::alloc::Global;
 use world_law::Book;
 use world_steps::letter_at;
@@ -31,22 +32,20 @@ fn drop_from(book: &Book, who: u8, mail: &mut Vec<u64>)
     mail.retain(|number| !is_from(book, who, *number));
 }
 
-// Whether the letter of a number is from a replica and is not among these.
-fn is_another_from(book: &Book, who: u8, found: &[u64], number: u64) -> bool
-    ensures { result ≡ (is_from who (slice_get (map posted_as book.now.letters) number) && not (has_number number found.now)) }
-{
-    is_from(book, who, number) && !found.contains(&number)
-}
-
 // The letters of a mail that are from a replica, each once.
-fn once_from(alloc: Global, book: &Book, who: u8, mail: &[u64]) -> Result<Vec<u64>, OutOfMemory>
-    ensures { IfOk result (λ found. found.items ≡ each_once (from_one (map posted_as book.now.letters) who mail.now)) }
+fn once_from(
+    alloc: Global,
+    book: &Book,
+    who: u8,
+    mail: &[u64],
+) -> Result<IndexSet<u64>, OutOfMemory>
+    ensures { IfOk result (λ found. found.keys ≡ each_once (from_one (map posted_as book.now.letters) who mail.now)) }
 {
-    let mut found: Vec<u64> = Vec::new(alloc);
+    let mut found = IndexSet::new(alloc);
     'numbers: for number in mail {
         let number = *number;
-        if is_another_from(book, who, &found, number) {
-            found.push(number)?;
+        if is_from(book, who, number) {
+            found.insert(number)?;
         }
     }
     Ok(found)
@@ -74,7 +73,7 @@ impl<D: Disk> World<D> {
     {
         let mail = &mut self.members[to as usize].mail.letters;
         let once = once_from(self.alloc, &self.book, from, mail)?;
-        mail.extend_from_slice(&once)?;
+        mail.extend_from_slice(once.as_slice())?;
         Ok(())
     }
 
