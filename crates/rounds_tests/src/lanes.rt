@@ -4,13 +4,16 @@ ghost use Rattle.zone_minutes.specs.declared.minute.Window.{Window};
 ghost use Rattle.rounds_tests.specs.Plays.{AreTaken, IsHour};
 
 use crate::hour::{LATER, table_of_one};
-use crate::worlds::world_after;
+use crate::worlds::{play_on, send_again, world_after};
+use disk_model::MemDisk;
+use due_set::JobTable;
 use script_text::Command;
 use std::alloc::Global;
 use std::process::Abort;
 use std::test::*;
 use std::thread::Threads;
 use world_law::{Book, LetterRow};
+use world_rounds::World;
 
 fn is_same_letter(one: &LetterRow, other: &LetterRow) -> bool {
     let way = one.from == other.from && one.to == other.to;
@@ -35,7 +38,28 @@ pub fn is_same_book(one: &Book, other: &Book) -> bool {
     rows && are_same_letters(one.letters(), other.letters())
 }
 
-// Whether three replicas have the same book after some commands in one lane and in so many.
+// The world of three replicas after some commands, a letter that joined its mail again 512 times, and a round.
+fn crowded_world<R: Threads + Sync>(
+    rt: &R,
+    alloc: Global,
+    table: &JobTable,
+    commands: &[Command],
+    lanes: u8,
+) -> Result<World<MemDisk>, Fail>
+    requires lanes { 0 < lanes }
+    requires hour { IsHour table.now.window }
+    requires taken { AreTaken table.now.window 3 commands.now }
+{
+    let world = world_after(rt, alloc, table, 3, commands, lanes)?;
+    let world = send_again(rt, world, table, 1, 512)?;
+    let round = [Command::Round {
+        at: LATER,
+        rounds: 1,
+    }];
+    play_on(rt, world, table, &round, lanes)
+}
+
+// Whether three replicas have the same book after some commands and such a round in one lane and in so many.
 fn is_same_in<R: Threads + Sync>(
     rt: &R,
     alloc: Global,
@@ -46,8 +70,8 @@ fn is_same_in<R: Threads + Sync>(
     requires taken { (window : Window) → IsHour window → AreTaken window 3 commands.now }
 {
     let table = table_of_one(alloc)?;
-    let plain = world_after(rt, alloc, &table, 3, commands, 1)?;
-    let shared = world_after(rt, alloc, &table, 3, commands, lanes)?;
+    let plain = crowded_world(rt, alloc, &table, commands, 1)?;
+    let shared = crowded_world(rt, alloc, &table, commands, lanes)?;
     Ok(is_same_book(plain.book(), shared.book()))
 }
 

@@ -8,8 +8,8 @@ ghost use Rattle.rounds_tests.specs.declared.meeting.MeetingDisk.{MeetingDisk as
 use crate::hour::{LATER, table_of_one};
 use crate::lanes::is_same_book;
 use crate::meeting::{Meeting, MeetingDisk};
-use crate::worlds::{empty_disk, play_on, world_after};
-use disk_model::{Disk, MemDisk};
+use crate::worlds::{empty_disk, play_on, send_again, world_after};
+use disk_model::{ArmedDisk, Disk, MemDisk};
 use due_set::JobTable;
 use script_text::Command;
 use std::alloc::Global;
@@ -62,7 +62,22 @@ pub fn world_of_meeting_disks(
     }
 }
 
-// A world on three of them, in which the last has stood for leader. From now on the others wait for each other.
+// Its two letters have joined their mails again, so that 512 letters wait.
+fn send_again_both<R: Threads + Sync, D: ArmedDisk + Send>(
+    rt: &R,
+    world: World<D>,
+    table: &JobTable,
+) -> Result<World<D>, Fail>
+    requires world { IsWorld D.view table.now world }
+    ensures world { IfOk result (IsWorld D.view table.now) }
+    ensures members { IfOk result (λ after. (book_of after).members ≡ (book_of world).members) }
+{
+    let world = send_again(rt, world, table, 0, 255)?;
+    send_again(rt, world, table, 1, 255)
+}
+
+// A world on three of them, in which the last has stood for leader, with letters enough for lanes. From now on the others wait
+// for each other.
 fn meeting_world<R: Threads + Sync>(
     rt: &R,
     alloc: Global,
@@ -74,6 +89,7 @@ fn meeting_world<R: Threads + Sync>(
 {
     let world = world_of_meeting_disks(alloc, table, 3, meeting)?;
     let world = play_on(rt, world, table, &[Command::Campaign { member: 2 }], 3)?;
+    let world = send_again_both(rt, world, table)?;
     meeting.open();
     Ok(world)
 }
@@ -86,14 +102,13 @@ fn plain_world<R: Threads + Sync>(
 ) -> Result<World<MemDisk>, Fail>
     requires { IsHour table.now.window }
 {
-    let commands = [
-        Command::Campaign { member: 2 },
-        Command::Round {
-            at: LATER,
-            rounds: 1,
-        },
-    ];
-    world_after(rt, alloc, table, 3, &commands, 1)
+    let world = world_after(rt, alloc, table, 3, &[Command::Campaign { member: 2 }], 1)?;
+    let world = send_again_both(rt, world, table)?;
+    let round = [Command::Round {
+        at: LATER,
+        rounds: 1,
+    }];
+    play_on(rt, world, table, &round, 1)
 }
 
 // Whether each wait ended since the other had come, and the book is that of the plain world.

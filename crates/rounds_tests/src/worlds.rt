@@ -87,6 +87,24 @@ pub fn play_on<R: Threads + Sync, D: ArmedDisk + Send>(
     Ok(world)
 }
 
+/// The world after a letter has joined its mail again so often.
+pub fn send_again<R: Threads + Sync, D: ArmedDisk + Send>(
+    rt: &R,
+    mut world: World<D>,
+    table: &JobTable,
+    letter: u32,
+    times: u32,
+) -> Result<World<D>, Fail>
+    requires world { IsWorld D.view table.now world }
+    ensures world { IfOk result (IsWorld D.view table.now) }
+    ensures members { IfOk result (λ after. (book_of after).members ≡ (book_of world).members) }
+{
+    'times: for _time in 0..times {
+        take(rt, &mut world, table, &Command::Again { letter }, 1)?;
+    }
+    Ok(world)
+}
+
 /// A world of so many replicas, after some commands, with rounds in so many lanes.
 pub fn world_after<R: Threads + Sync>(
     rt: &R,

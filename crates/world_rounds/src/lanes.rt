@@ -13,6 +13,29 @@ use std::thread::Threads;
 use world_law::Book;
 use zone_minutes::Minute;
 
+// For a round with fewer letters the threads cost more than they save.
+const ENOUGH_LETTERS: usize = 512;
+
+// How many letters wait for the replicas.
+fn count_letters<D>(members: &[Member<D>]) -> usize {
+    let mut count = 0usize;
+    'members: for member in members {
+        count = count.saturating_add(member.mail.letters.len());
+    }
+    count
+}
+
+// In how many lanes a round goes: in one, where few letters wait.
+fn lanes_worth<D>(members: &[Member<D>], lanes: u8) -> u8
+    requires lanes { 0 < lanes }
+    ensures { 0 < result }
+{
+    if count_letters(members) < ENOUGH_LETTERS {
+        return 1;
+    }
+    lanes
+}
+
 // Each replica takes its steps of a round, in so many lanes, and notes whether want of memory ends them.
 fn run_rounds<D: Disk + Send, R: Threads + Sync>(
     rt: &R,
@@ -49,7 +72,7 @@ fn had_memory<D: Disk>(members: &[Member<D>]) -> Result<(), OutOfMemory>
     Ok(())
 }
 
-// Each replica takes its steps of a round, in so many lanes.
+// Each replica takes its steps of a round, in so many lanes, or in one, where few letters wait.
 pub(crate) fn share_rounds<D: Disk + Send, R: Threads + Sync>(
     rt: &R,
     members: &mut [Member<D>],
@@ -63,6 +86,7 @@ pub(crate) fn share_rounds<D: Disk + Send, R: Threads + Sync>(
     requires may { (who : ℕ) (member : Seat D) → slice_get members.old who ≡ Some member → MayTakeRound D.view table.now book.now member }
     ensures takes { OnOk result (AllTakeRounds D.view table.now book.now at.0 members.old members.new) }
 {
+    let lanes = lanes_worth(members, lanes);
     run_rounds(rt, members, table, book, at, lanes);
     had_memory(members)
 }

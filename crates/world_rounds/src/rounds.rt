@@ -113,7 +113,8 @@ impl<D: ArmedDisk + Send> World<D> {
     }
 
     /// So many rounds at an instant, in so many lanes. One lane makes no thread, and more than there are replicas are as good as
-    /// one for each. The turns are the same for every number of lanes; a round in which a disk is armed goes in one.
+    /// one for each. The turns are the same for every number of lanes; a round in which a disk is armed, or for which fewer than
+    /// 512 letters wait, goes in one.
     pub fn round<R: Threads + Sync>(
         &mut self,
         rt: &R,
