@@ -9,5 +9,6 @@ mod ZoneLemmas
 pub mod DueCountLemmas
 pub mod JobLemmas
 pub mod MarkLemmas
+pub mod NameLemmas
 pub mod UniqueLemmas
 pub mod VariantLemmas

@@ -1,5 +1,6 @@
 pub mod Collect
 pub mod Jobs
 pub mod Marks
+pub mod Names
 pub mod Table
 pub mod Zones

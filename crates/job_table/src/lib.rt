@@ -5,8 +5,8 @@
 //! force at its line, and each job of an anacrontab by that of its section, with the period and the minutes of the
 //! day that its line and the variables above it say (`AreMarks`). A run has one table at most or one refusal at
 //! most, never both, and one of the two if `jiff` reads or refuses each of its zones (`a_run_has_one_verdict`).
-//! `zones` builds and numbers the zones, `collect` goes through the sections once, `jobs` has the jobs by their
-//! names.
+//! Each job's name is one word (`each_job_has_a_word_for_its_name`). `zones` builds and numbers the zones, `collect`
+//! goes through the sections once, `jobs` has the jobs by their names.
 #![tactic(auto)]
 
 mod anacrontab;
@@ -19,4 +19,4 @@ mod laws;
 mod zones;
 
 pub use build::build_table;
-pub use laws::a_run_has_one_verdict;
+pub use laws::{a_run_has_one_verdict, each_job_has_a_word_for_its_name};
