@@ -1,7 +1,7 @@
 //! What a table says: fields, crontabs, anacrontabs, run files, and the jobs that these name. What a script says:
 //! the lines of its commands, at the ends of their ranges and one beyond, lines of none, and its limits. The runs
 //! that seeds make, compared with what Python makes of the same seeds. Due lists and checks of run files, and sinks
-//! that fail or have no room.
+//! that fail or have no room. The parts of what an audit reads.
 #![tactic(auto)]
 
 #[cfg(test)]
@@ -42,3 +42,5 @@ mod rows;
 mod run_file_tests;
 #[cfg(test)]
 mod script_tests;
+#[cfg(test)]
+mod split_tests;

@@ -1,0 +1,5 @@
+mod CutLemmas
+mod LineLemmas
+mod PartLemmas
+mod ReadLemmas
+mod SplitLemmas
