@@ -6,7 +6,7 @@ use Rattle.script_semantics.specs.Arms.{AreTurnsByArms, IsTurnByArm, PlaysByArms
 use Rattle.script_semantics.specs.Situation.{Situation, Task, after_turn, after_turns}
 use Rattle.journal_text.proofs.Twins.{AreTwins, after_twin}
 use Rattle.run_audit.specs.Begins.{BeginsToPlayByArms, BeginsTurnsByArms}
-use Rattle.run_audit.proofs.StopLemmas.{StopsIn}
+use Rattle.run_audit.specs.Played.{StopsIn}
 
 -- the rows are turns of the first tasks, and these tasks are left behind them
 abbrev pub LeavesTasks : ℕ → Situation → List Task → List Row → List Task → Type 0

@@ -136,7 +136,7 @@ module _ (table : Table) (rows : List Row) (old middle : Replay) (situation : Si
     -- a call that a line tells was judged
     pub judged_call : (call : ToldCall) (new : Replay) → told_fate made.fate ≡ call.fate → told_row table made.answer ≡ call.answer → MakesCall made middle.book new.book → StandsBehind table rows new.book
         → HasRoom (length out.letters) new.book → new.seats ≡ middle.seats → new.settings ≡ middle.settings → new.cuts ≡ middle.cuts → new.latest ≡ middle.latest
-        → IsJudged table rows (TurnLine (Number (length old.book.turns)) (Number who) (CallTurn now call)) old new (record { turn = Did who (Tick now) (Some made); out = out })
+        → IsJudged table rows (TurnLine (Number (length old.book.turns)) (Number who) (CallTurn now call)) old new (record { turn = Did who (Tick now) (Some made); out = out; lost = None })
     judged_call call new fate answer makes stands room seats settings cuts latest =
         judged_did table rows old middle new situation who (Tick now) (Some made) (CallTurn now call) out is stepped made_of (tells call fate answer)
         stands (makes.members ∙ stepped.book.members) makes.pending room seats settings cuts latest

@@ -1,5 +1,5 @@
 -- Nothing comes after a whole part: turns that go on behind it begin no such part.
-use Rattle.std.proofs.Common.{◌≡◌, ◌+◌, ◌<◌, ℕ, zero, suc, ℤ, List, [], ◌∷◌, ◌++◌, Some, inl, inr, length, append_assoc, append-nil, take, refl, ap, sym, subst, ◌∙◌, arith}
+use Rattle.std.proofs.Common.{◌≡◌, ◌<◌, ℕ, zero, suc, ℤ, List, [], ◌∷◌, ◌++◌, Some, inl, inr, length, append_assoc, append-nil, take, refl, ap, sym, subst, ◌∙◌, arith}
 use Rattle.std.specs.Prelude.{slice_get, true}
 use Rattle.std.specs.Int.{int_min}
 use Rattle.std.proofs.Math.Seq.{take-append_seam}
@@ -82,16 +82,16 @@ arms_end members situation (task ∷ tasks) (first ∷ rows) row more (other ∷
     (subst (λ (at : Situation). BeginsTurnsByArms members at (tasks_left first.turn tasks) longer) (sym same)
     (subst (λ (had : Turn). BeginsTurnsByArms members (after_turn members situation other) (tasks_left had tasks) longer) (sym turn) begun.1)) others
 
-plays_ends : (members : ℕ) (tasks : Situation → List Task) → EndsThere members (BeginsToPlay members tasks) (Plays members tasks)
+pub plays_ends : (members : ℕ) (tasks : Situation → List Task) → EndsThere members (BeginsToPlay members tasks) (Plays members tasks)
 plays_ends members tasks situation rows row more longer after x begun twins =
     turns_end members situation (tasks situation) rows row more longer x.turns begun twins
 
-plays_by_ends : (members : ℕ) (tasks : Situation → List Task) → EndsThere members (BeginsToPlayByArms members tasks) (PlaysByArms members tasks)
+pub plays_by_ends : (members : ℕ) (tasks : Situation → List Task) → EndsThere members (BeginsToPlayByArms members tasks) (PlaysByArms members tasks)
 plays_by_ends members tasks situation rows row more longer after x begun twins =
     arms_end members situation (tasks situation) rows row more longer x.turns begun twins
 
 -- what is set behind the turns has none
-plain_ends : (members : ℕ) (tasks : Situation → List Task) (change : Situation → Situation) → EndsThere members (BeginsToPlay members tasks) (Plain members tasks change)
+pub plain_ends : (members : ℕ) (tasks : Situation → List Task) (change : Situation → Situation) → EndsThere members (BeginsToPlay members tasks) (Plain members tasks change)
 plain_ends members tasks change situation rows row more longer after x begun twins =
     let all : rows ≡ x.front = x.parts ∙ ap (λ (l : List Row). x.front ++ l) x.two.none ∙ append-nil x.front in
     plays_ends members tasks situation x.front row more longer x.middle x.one begun
@@ -165,7 +165,7 @@ module _ (members : ℕ) (table : Table) where
       then_ends members (BeginsToPlay members stands) (Plays members stands) (BeginsDrain members table who at) (Drains members table who at)
       (plays_alike members stands) (plays_ends members stands) (drain_ends who at) situation
 
-  settling_ends : (at : ℤ) → EndsThere members (BeginsSettling members table at) (Settles members table at)
+  pub settling_ends : (at : ℤ) → EndsThere members (BeginsSettling members table at) (Settles members table at)
   settling_ends at =
       then_ends members (BeginsToPlay members (restart_tasks members)) (Plain members (restart_tasks members) cleared) (BeginsToLead members table at)
       (IsLedToQuiet members table at) (plain_alike members (restart_tasks members) cleared (λ here. refl)) (plain_ends members (restart_tasks members) cleared) (lead_ends at)

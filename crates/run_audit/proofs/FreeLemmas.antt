@@ -1,5 +1,5 @@
 -- Turns in no order: the next turn of a replica is one more, and the part is whole where nobody has one left.
-use Rattle.std.proofs.Common.{◌≡◌, ◌⊎◌, ◌+◌, ◌<◌, ℕ, ℤ, true, List, [], ◌∷◌, ◌++◌, append-nil, suc, Some, inl, inr, length, take, refl, ap, sym, subst, ◌∙◌, arith}
+use Rattle.std.proofs.Common.{◌≡◌, ◌⊎◌, ◌<◌, ℕ, ℤ, true, List, [], ◌∷◌, ◌++◌, append-nil, suc, Some, inl, inr, length, take, refl, ap, sym, subst, ◌∙◌, arith}
 use Rattle.std.specs.Prelude.{slice_get}
 use Rattle.std.proofs.lemmas.Bool.{cases_lt}
 use Rattle.std.proofs.lemmas.List.{get_or_append_left, get_or_at, length-append, take-append-le, take_at}
@@ -12,7 +12,7 @@ use Rattle.journal_text.proofs.Courses.{course_alike}
 use Rattle.journal_text.proofs.Twins.{AreTwins}
 use Rattle.run_audit.specs.Begins.{BeginsFree}
 use Rattle.run_audit.proofs.EndLemmas.{found_there}
-use Rattle.run_audit.proofs.StopLemmas.{StopsIn}
+use Rattle.run_audit.specs.Played.{StopsIn}
 
 -- a row of a list with one more is one of the list, or that one
 abbrev IsRowOf : (rows : List Row) (row : Row) (place : ℕ) (found : Row) → Type 0

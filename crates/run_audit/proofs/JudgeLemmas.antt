@@ -26,6 +26,7 @@ use Rattle.journal_line.specs.Told.{ToldTurn, ArrivalLine, TurnLine, DidTurn, Re
 use Rattle.journal_line.specs.declared.line.Count.{Count}
 use Rattle.journal_line.specs.declared.line.Count.TheVariants.{Number}
 use Rattle.journal_text.specs.Line.{Tells, TellsStep, told_cause}
+use Rattle.paxos_base.specs.declared.durable.Delta.{Delta}
 use Rattle.paxos_base.specs.declared.durable.Durable.{Durable}
 use Rattle.replica_core.specs.Replica.{ReplicaState}
 use Rattle.replica_core.specs.declared.out.StepOut.{StepOut}
@@ -39,7 +40,7 @@ use Rattle.world_law.proofs.Steps.{step_is_turn, takes_turn}
 use Rattle.run_audit.proofs.QuietLemmas.{running_at, stopped_at}
 use Rattle.run_audit.proofs.SettingLemmas.{set_cases, some_same}
 use Rattle.run_audit.proofs.ToldLemmas.{did_told}
-use Rattle.run_audit.specs.Judged.{AreSeatedThen, HasMadeStep, IsJudged, MayBeTold}
+use Rattle.run_audit.specs.Judged.{AreSeatedThen, HasMadeStep, IsJudged, MayBeTold, changes_with}
 use Rattle.run_audit.specs.Replay.{IsReplayAt, IsSeatOf, IsThere}
 use Rattle.run_audit.specs.declared.replay.Replay.{Replay}
 use Rattle.run_audit.specs.declared.replay.Seat.{Seat}
@@ -80,7 +81,7 @@ turns_are table rows replay situation is = ap length is.behind.turns ∙ length-
 pub judged_stop : (table : Table) (rows : List Row) (old new : Replay) (situation : Situation) (who : ℕ) (seat next : Seat) (out : StepOut) → IsReplayAt table rows old situation
     → slice_get old.seats.items who ≡ Some seat → is_some seat.replica ≡ true → out ≡ change_alone None → IsSameBook new.book old.book → HasRoom (length out.letters) new.book
     → new.seats.items ≡ set old.seats.items who next → next.replica ≡ None → next.kept ≡ seat.kept → new.settings ≡ old.settings → new.cuts ≡ old.cuts → new.latest ≡ old.latest
-    → IsJudged table rows (TurnLine (Number (length old.book.turns)) (Number who) StopTurn) old new (record { turn = Stopped who None false; out = out })
+    → IsJudged table rows (TurnLine (Number (length old.book.turns)) (Number who) StopTurn) old new (record { turn = Stopped who None false; out = out; lost = None })
 judged_stop table rows old new situation who seat next out is there runs alone book room seats stopped kept settings cuts latest =
     let replica = some_of seat.replica runs in
     let at = running_at table rows old situation is who seat replica.0 there replica.1 in
@@ -95,6 +96,7 @@ judged_stop table rows old new situation who seat next out is there runs alone b
             (ap (λ number. TurnLine (Number number) (Number who) StopTurn) (turns_are table rows old situation is));
       };
       change = ap (λ (out : StepOut). out.delta) alone;
+      changes = sym (ap (λ (out : StepOut). changes_with out.delta None) alone);
       behind = alike_stands table rows old.book new.book book is.behind;
       members = book.members;
       pending = book.pending ∙ is.rest;
@@ -124,7 +126,7 @@ not_any late (number ∷ numbers) none has = elim (cases_Bool (number == late)) 
 pub judged_arrival : (table : Table) (rows : List Row) (old new : Replay) (situation : Situation) (late : ℕ) (told : Count) (out : StepOut) → IsReplayAt table rows old situation → told ≡ Number late → late < length old.book.ledger.late
     → (Contains old.book.arrived late → ⊥) → out ≡ change_alone None → IsSameBook new.book old.book → HasRoom (length out.letters) new.book → new.seats ≡ old.seats
     → new.settings ≡ old.settings → new.cuts ≡ old.cuts → new.latest ≡ old.latest
-    → IsJudged table rows (ArrivalLine (Number (length old.book.turns)) told) old new (record { turn = Arrived late; out = out })
+    → IsJudged table rows (ArrivalLine (Number (length old.book.turns)) told) old new (record { turn = Arrived late; out = out; lost = None })
 judged_arrival table rows old new situation late told out is tells below first alone book room seats settings cuts latest =
     let found = found_at old.book.ledger.late late below in
     let row : Row = record { turn = Arrived late; event = Campaign; letters = []; votes = []; learnt = [] } in
@@ -143,6 +145,7 @@ judged_arrival table rows old new situation late told out is tells below first a
         tells = ap (λ number. ArrivalLine (Number number) told) (turns_are table rows old situation is) ∙ ap (λ told. ArrivalLine (Number (length rows)) told) tells;
       };
       change = ap (λ (out : StepOut). out.delta) alone;
+      changes = sym (ap (λ (out : StepOut). changes_with out.delta None) alone);
       behind = alike_stands table rows old.book new.book book is.behind;
       members = book.members;
       pending = book.pending ∙ is.rest;
@@ -164,7 +167,7 @@ pub judged_restart : (table : Table) (rows : List Row) (old new : Replay) (situa
     → slice_get old.seats.items who ≡ Some seat → seat.replica ≡ None → replica.identity ≡ identity_of old.book.members who → replica.state ≡ started who seat.kept → IsOfTable table replica
     → out ≡ change_alone None → IsSameBook new.book old.book → HasRoom (length out.letters) new.book
     → new.seats.items ≡ set old.seats.items who next → next.replica ≡ Some replica → next.kept ≡ seat.kept → new.settings ≡ old.settings → new.cuts ≡ old.cuts → new.latest ≡ old.latest
-    → IsJudged table rows (TurnLine (Number (length old.book.turns)) (Number who) RestartTurn) old new (record { turn = Restarted who; out = out })
+    → IsJudged table rows (TurnLine (Number (length old.book.turns)) (Number who) RestartTurn) old new (record { turn = Restarted who; out = out; lost = None })
 judged_restart table rows old new situation who seat next replica out is there stopped identity state of_table alone book room seats runs kept settings cuts latest =
     let me : replica.identity.me ≡ who = ap (λ (self : Identity). self.me) identity in
     let begins = restarts table rows old.book seat.kept replica (subst (λ me. StandsStopped table rows old.book me seat.kept) (sym me) (stopped_at table rows old situation is who seat there stopped))
@@ -179,6 +182,7 @@ judged_restart table rows old new situation who seat next replica out is there s
             (ap (λ number. TurnLine (Number number) (Number who) RestartTurn) (turns_are table rows old situation is));
       };
       change = ap (λ (out : StepOut). out.delta) alone;
+      changes = sym (ap (λ (out : StepOut). changes_with out.delta None) alone);
       behind = alike_stands table rows old.book new.book book is.behind;
       members = book.members;
       pending = book.pending ∙ is.rest;
@@ -237,11 +241,16 @@ did_turn table rows old middle situation who why made out is stepped is_made =
     (step_is_turn table rows old.book why made stepped.input stepped.before stepped.after out is.few is.behind stepped.stands
     (subst (λ me. IsInputOf (standing_behind table rows old.book) old.book me why stepped.input) (sym stepped.me) stepped.told) stepped.inside stepped.steps is_made)
 
+-- a step has lost no change
+none_lost : (kept : Option Delta) → changes_with kept None ≡ option_to_list kept
+none_lost None = refl
+none_lost (Some change) = refl
+
 pub judged_did : (table : Table) (rows : List Row) (old middle new : Replay) (situation : Situation) (who : ℕ) (why : Cause) (made : Option CallRow) (told : ToldTurn) (out : StepOut)
     → IsReplayAt table rows old situation → HasMadeStep table rows who why old middle out → IsMade (standing_behind table rows old.book).held (option_to_list out.call) made → TellsStep table why made told
     → StandsBehind table rows new.book → new.book.members ≡ old.book.members → new.book.pending ≡ made → HasRoom (length out.letters) new.book
     → new.seats ≡ middle.seats → new.settings ≡ middle.settings → new.cuts ≡ middle.cuts → new.latest ≡ middle.latest
-    → IsJudged table rows (TurnLine (Number (length old.book.turns)) (Number who) told) old new (record { turn = Did who why made; out = out })
+    → IsJudged table rows (TurnLine (Number (length old.book.turns)) (Number who) told) old new (record { turn = Did who why made; out = out; lost = None })
 judged_did table rows old middle new situation who why made told out is stepped is_made tells behind members pending room seats settings cuts latest =
     let did = did_turn table rows old middle situation who why made out is stepped is_made in
     let turn : did.row.turn ≡ Did who why made = did.is.turn_is in
@@ -256,6 +265,7 @@ judged_did table rows old middle new situation who why made told out is stepped 
             (told, tells, ap (λ number. TurnLine (Number number) (Number who) told) (turns_are table rows old situation is));
       };
       change = step_changes table rows old middle situation who why out did.row.event is stepped may.0;
+      changes = step_changes table rows old middle situation who why out did.row.event is stepped may.0 ∙ sym (none_lost out.delta);
       behind = behind;
       members = members;
       pending = pending;
@@ -270,7 +280,7 @@ judged_did table rows old middle new situation who why made told out is stepped 
 
 -- a step without a call
 pub judged_step : (table : Table) (rows : List Row) (old new : Replay) (situation : Situation) (who : ℕ) (why : Cause) (out : StepOut) → IsReplayAt table rows old situation → HasMadeStep table rows who why old new out
-    → out.call ≡ None → IsJudged table rows (TurnLine (Number (length old.book.turns)) (Number who) (DidTurn (told_cause why))) old new (record { turn = Did who why None; out = out })
+    → out.call ≡ None → IsJudged table rows (TurnLine (Number (length old.book.turns)) (Number who) (DidTurn (told_cause why))) old new (record { turn = Did who why None; out = out; lost = None })
 judged_step table rows old new situation who why out is stepped none =
     judged_did table rows old new new situation who why None (DidTurn (told_cause why)) out is stepped
     (subst (λ call. IsMade (standing_behind table rows old.book).held (option_to_list call) None) (sym none) refl) (tells_none table why)

@@ -10,7 +10,8 @@ use Rattle.journal_text.proofs.Determined.{EndAlike, drain_round_alike, drains_a
 use Rattle.run_audit.specs.Begins.{BeginsDrain, BeginsDrainRound, BeginsThen, BeginsWalkIn, BeginsWalkOn}
 use Rattle.run_audit.proofs.BeginLemmas.{BeginsAsWhole, drain_begins, drain_round_begins}
 use Rattle.run_audit.proofs.EndLemmas.{EndsThere, drain_ends, drain_round_ends}
-use Rattle.run_audit.proofs.StopLemmas.{StopsIn, stops_second}
+use Rattle.run_audit.proofs.StopLemmas.{stops_second}
+use Rattle.run_audit.specs.Played.{StopsIn}
 
 -- the turns lead from the one part, in a situation, into the other
 pub record Leads (members : ℕ) (begins : Situation → List Row → Type 0) (whole : Situation → List Row → Situation → Type 0) (situation : Situation)

@@ -23,3 +23,12 @@ pub mod DeliverLemmas
 pub mod TaskLemmas
 pub mod CallLemmas
 pub mod WithinLemmas
+pub mod ComingLemmas
+pub mod PlayLemmas
+pub mod PartLemmas
+pub mod LoopLemmas
+pub mod ByArmsLemmas
+pub mod DiskLemmas
+pub mod NewlineLemmas
+pub mod ProgressLemmas
+pub mod FreelyLemmas

@@ -34,7 +34,7 @@ over_more {A} f count =
     ap (λ n. flat_map f (range_with_len 0 n)) one ∙ ap (flat_map f) longer ∙ flat_map-append f (range_with_len 0 count) (count ∷ [])
     ∙ ap (λ (l : List A). flat_map f (range_with_len 0 count) ++ l) (append-nil (f count))
 
-enumerate-append : {X : Type 0} (n : ℕ) (xs ys : List X) → enumerate_from n (xs ++ ys) ≡ enumerate_from n xs ++ enumerate_from (n + length xs) ys
+pub enumerate-append : {X : Type 0} (n : ℕ) (xs ys : List X) → enumerate_from n (xs ++ ys) ≡ enumerate_from n xs ++ enumerate_from (n + length xs) ys
 enumerate-append n [] ys = ap (λ k. enumerate_from k ys) (omega arith)
 enumerate-append {X} n (x ∷ xs) ys =
     ap (λ (l : List (ℕ × X)). (n, x) ∷ l) (enumerate-append (n + 1) xs ys ∙ ap (λ k. enumerate_from (n + 1) xs ++ enumerate_from k ys) (omega arith))

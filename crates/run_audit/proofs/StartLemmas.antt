@@ -19,7 +19,7 @@ use Rattle.run_audit.specs.declared.replay.Replay.{Replay}
 use Rattle.run_audit.specs.declared.replay.Seat.{Seat}
 use Rattle.run_audit.specs.declared.replay.Setting.{Setting}
 
-found_last : {X : Type 0} (xs : List X) (y : X) (k : ℕ) (x : X) → slice_get (xs ++ y ∷ []) k ≡ Some x → (slice_get xs k ≡ Some x) ⊎ ((k ≡ length xs) × (x ≡ y))
+pub found_last : {X : Type 0} (xs : List X) (y : X) (k : ℕ) (x : X) → slice_get (xs ++ y ∷ []) k ≡ Some x → (slice_get xs k ≡ Some x) ⊎ ((k ≡ length xs) × (x ≡ y))
 found_last [] y zero x is = inr (refl, cc)
 found_last [] y (suc k) x is = absurd cc
 found_last (z ∷ xs) y zero x is = inl is

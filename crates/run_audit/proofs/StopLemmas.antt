@@ -8,13 +8,7 @@ use Rattle.journal_text.proofs.Twins.{AreTwins, after_twin, twins_refl}
 use Rattle.run_audit.specs.Begins.{BeginsThen, BeginsToPlay, BeginsTurnsFor}
 use Rattle.run_audit.proofs.BeginLemmas.{BeginsAsWhole}
 use Rattle.run_audit.proofs.EndLemmas.{EndsThere, nothing_longer}
-
--- The rows begin the part, none of their fronts is whole, and none of these rows goes on behind them: whichever twins they have.
-pub record StopsIn (members : ℕ) (begins : Situation → List Row → Type 0) (whole : Situation → List Row → Situation → Type 0) (Next : Row → Type 0)
-    (situation : Situation) (rows : List Row) : Type 0 where
-  pub begun : begins situation rows
-  pub not_whole : (front more : List Row) (after : Situation) → whole situation front after → AreTwins members situation.standing rows (front ++ more) → ⊥
-  pub stuck : (others : List Row) (row : Row) → AreTwins members situation.standing rows others → Next row → begins situation (others ++ row ∷ []) → ⊥
+use Rattle.run_audit.specs.Played.{StopsIn}
 
 -- of a list with one row more, cut in two: the second part is empty, or it ends in that row
 abbrev CutLast : (others : List Row) (row : Row) (done back : List Row) → Type 0

@@ -1,5 +1,5 @@
 -- What a stop within a step that is judged leaves of a replay.
-use Rattle.std.proofs.Common.{◌≡◌, ◌⊎◌, ℕ, Bool, true, false, is_some, List, [], ◌∷◌, ◌++◌, length, Option, None, Some, refl, sym, ap, ◌∙◌, subst, inl, inr}
+use Rattle.std.proofs.Common.{◌≡◌, ◌⊎◌, ℕ, Bool, true, false, not, is_some, List, [], ◌∷◌, ◌++◌, length, Option, None, Some, refl, sym, ap, ◌∙◌, subst, inl, inr}
 use Rattle.std.specs.List.{slice_get}
 use Rattle.std.proofs.Math.ListN.{set}
 use Rattle.due_set.specs.Table.{Table}
@@ -26,7 +26,7 @@ use Rattle.world_law.specs.Replicas.{IsInputOf, IsStopOf, StandsStopped, change_
 use Rattle.run_audit.proofs.JudgeLemmas.{seated_then, told_acts, turns_are}
 use Rattle.run_audit.proofs.QuietLemmas.{running_at}
 use Rattle.run_audit.proofs.ToldLemmas.{within_told}
-use Rattle.run_audit.specs.Judged.{ChangesNothing, IsChangeKept, IsJudged, MayBeTold, WouldChange, kept_change}
+use Rattle.run_audit.specs.Judged.{ChangesNothing, IsChangeKept, IsJudged, MayBeTold, WouldChange, changes_with, kept_change}
 use Rattle.run_audit.specs.Replay.{IsReplayAt, IsThere}
 use Rattle.run_audit.specs.declared.replay.Replay.{Replay}
 use Rattle.run_audit.specs.declared.replay.Seat.{Seat}
@@ -39,6 +39,11 @@ kept_or_lost false change = inr refl
 is_kept : (kept : Bool) (change : Delta) → is_some (kept_change kept change) ≡ kept
 is_kept true change = refl
 is_kept false change = refl
+
+-- the change of the step is the one that is kept, or the one that is lost
+one_change : (kept : Bool) (change : Delta) → changes_with (kept_change kept change) (kept_change (not kept) change) ≡ change ∷ []
+one_change true change = refl
+one_change false change = refl
 
 -- what such a stop changes
 change_is : (members : ℕ) (standing : Standing) (who : ℕ) (why : Cause) (kept : Bool) (event : Event) (change : Delta) → deltas_of (acts_at members standing who event) ≡ change ∷ []
@@ -90,10 +95,10 @@ module _ (table : Table) (rows : List Row) (old : Replay) (situation : Situation
           ap deltas_of (told_acts table rows old.book who why input replica would.event stop.row.event is.behind at.stands at.me told inside would.event_is may.0) ∙ would.changes
 
       -- a stop that the line tells was judged
-      pub judged_within : (new : Replay) (next : Seat) (out : StepOut) → out ≡ change_alone answer → IsSameBook new.book old.book → HasRoom (length out.letters) new.book → new.seats.items ≡ set old.seats.items who next
+      pub judged_within : (new : Replay) (next : Seat) (out : StepOut) (lost : Option Delta) → out ≡ change_alone answer → lost ≡ kept_change (not kept) change → IsSameBook new.book old.book → HasRoom (length out.letters) new.book → new.seats.items ≡ set old.seats.items who next
           → next.replica ≡ None → next.kept ≡ kept_after out.delta seat.kept → new.settings ≡ old.settings → new.cuts ≡ old.cuts → new.latest ≡ old.latest
-          → IsJudged table rows (TurnLine (Number (length old.book.turns)) (Number who) (StopWithinTurn kept (told_cause why))) old new (record { turn = Stopped who (Some why) kept; out = out })
-      judged_within new next out alone book room seats stopped keeps settings cuts latest =
+          → IsJudged table rows (TurnLine (Number (length old.book.turns)) (Number who) (StopWithinTurn kept (told_cause why))) old new (record { turn = Stopped who (Some why) kept; out = out; lost = lost })
+      judged_within new next out lost alone loses book room seats stopped keeps settings cuts latest =
           let at = running_at table rows old situation is who seat replica there runs in
           let delta : out.delta ≡ answer = ap (λ (out : StepOut). out.delta) alone in
           let left : kept_after answer replica.state.kept ≡ next.kept =
@@ -108,6 +113,7 @@ module _ (table : Table) (rows : List Row) (old : Replay) (situation : Situation
             };
             change = subst (λ delta. IsChangeKept old.book.members standing (Stopped who (Some why) kept) stop.row.event delta) (sym delta)
                 (change_is old.book.members standing who why kept stop.row.event change changes);
+            changes = changes ∙ sym (one_change kept change) ∙ ap (λ found. changes_with found (kept_change (not kept) change)) (sym delta) ∙ ap (changes_with out.delta) (sym loses);
             behind = alike_stands table rows old.book new.book book is.behind;
             members = book.members;
             pending = book.pending ∙ is.rest;

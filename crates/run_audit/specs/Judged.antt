@@ -17,7 +17,7 @@ use Rattle.replica_core.specs.declared.input.Input.{Input}
 use Rattle.replica_core.specs.declared.out.StepOut.{StepOut}
 use Rattle.journal_line.specs.Told.{ToldLine}
 use Rattle.journal_text.specs.Line.{Tells}
-use Rattle.script_semantics.specs.Situation.{Situation}
+use Rattle.script_semantics.specs.Situation.{Situation, changes_in}
 use Rattle.world_law.specs.Book.{BookState, HasRoom, IsRowOf, IsSameBook, StandsBehind, call_of, standing_behind}
 use Rattle.world_law.specs.Replicas.{IsInputOf, StandsAt}
 use Rattle.run_audit.specs.Replay.{IsReplayAt, IsSeatOf}
@@ -42,6 +42,11 @@ IsChangeKept members standing (Did who cause made) event change = deltas_of (act
 IsChangeKept members standing (Stopped who (Some cause) true) event change = deltas_of (acts_at members standing who event) ≡ option_to_list change
 IsChangeKept members standing turn event change = change ≡ None
 
+-- the changes that the step of a turn makes: the one that is kept, or the one that a stop has lost
+abbrev pub changes_with : (kept lost : Option Delta) → List Delta
+changes_with (Some change) lost = change ∷ []
+changes_with None lost = option_to_list lost
+
 -- **A turn was judged that may come next**: its replica has taken it, its call is pending, and there is room for it in the book. The
 -- turn hasn't joined the book, and what is set is as it was.
 pub record IsJudged (table : Table) (rows : List Row) (told : ToldLine) (old new : Replay) (judged : Judged) : Type 0 where
@@ -49,6 +54,7 @@ pub record IsJudged (table : Table) (rows : List Row) (told : ToldLine) (old new
   pub is : IsRowOf judged.turn judged.out row
   pub told_by : MayBeTold table rows old.book told row
   pub change : IsChangeKept old.book.members (standing_behind table rows old.book) judged.turn row.event judged.out.delta
+  pub changes : changes_in old.book.members (standing_behind table rows old.book) judged.turn row.event ≡ changes_with judged.out.delta judged.lost
   pub behind : StandsBehind table rows new.book
   pub members : new.book.members ≡ old.book.members
   pub pending : new.book.pending ≡ call_of judged.turn

@@ -1,6 +1,10 @@
 pub mod Begins
+pub mod ByArms
+pub mod Coming
 pub mod Delivered
+pub mod Freely
 pub mod Judged
+pub mod Played
 pub mod Quiet
 pub mod Reading
 pub mod Replay

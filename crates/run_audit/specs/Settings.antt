@@ -1,9 +1,9 @@
 -- What a script sets in a replay.
-use Rattle.std.specs.Prelude.{◌≡◌, ⊤, ℕ, ◌<◌, [], List, pos, length, None, Some, slice_get}
+use Rattle.std.specs.Prelude.{◌≡◌, ⊤, ℕ, ◌<◌, Bool, true, false, [], List, pos, length, None, Some, slice_get}
 use Rattle.cluster_sched.specs.declared.fate.Fate.TheVariants.{Done}
 use Rattle.due_set.specs.Table.{Table}
 use Rattle.script_text.specs.declared.command.Command.{Command}
-use Rattle.script_text.specs.declared.command.Command.TheVariants.{Drop, Repeat, Reverse, Skew, Fate}
+use Rattle.script_text.specs.declared.command.Command.TheVariants.{Break, Campaign, Drop, Fate, Free, Repeat, Reverse, Round, Settle, Skew, Walk}
 use Rattle.history.specs.Book.{Row}
 use Rattle.script_semantics.specs.Situation.{Situation}
 use Rattle.run_audit.specs.Replay.{IsReplayAt}
@@ -23,6 +23,16 @@ NamesMember members (Reverse who) = who < members
 NamesMember members (Skew who minutes) = who < members
 NamesMember members (Fate who word) = who < members
 NamesMember members command = ⊤
+
+-- a command that asks for a turn at most and then sets something, on disks that don't stop
+abbrev pub is_plain : Command → Bool
+is_plain (Campaign who) = false
+is_plain (Round at rounds) = false
+is_plain (Settle at) = false
+is_plain (Walk to) = false
+is_plain (Break who pass image) = false
+is_plain (Free at turns) = false
+is_plain command = true
 
 -- no letter waits for the replica, its clock is right, its next call is answered, and its disk isn't armed; all else is as it was
 pub record IsReset (old new : Setting) : Type 0 where

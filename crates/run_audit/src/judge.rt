@@ -1,6 +1,7 @@
 //! Which turn a line tells, and whether it may come next: its replica takes it, and its call is made. So a replay is spoilt where the
 //! line is refused.
-ghost use Rattle.std.specs.Prelude.{◌≡◌, ◌⊎◌, ◌<◌, ◌≤◌, List, IfSome, IfNone, IfOk, length};
+ghost use Rattle.std.specs.Prelude.{◌≡◌, ◌⊎◌, ◌<◌, ◌≤◌, List, IfSome, IfNone, IfOk, length, not};
+ghost use Rattle.std.specs.Option.{option_to_list};
 ghost use Rattle.history.specs.Book.{Row};
 ghost use Rattle.history.specs.Legal.{IsEventOfCause};
 ghost use Rattle.journal_line.specs.Told.{ArrivalLine, TurnLine, CallTurn, DidTurn, RestartTurn, StopTurn, StopWithinTurn, told_call, told_line, told_turn};
@@ -12,9 +13,10 @@ ghost use Rattle.step_spec.specs.Step.{Event};
 ghost use Rattle.world_law.specs.Book.{StandsBehind, standing_behind};
 ghost use Rattle.world_law.specs.Replicas.{IsInputOf, change_alone};
 ghost use Rattle.replica_core.specs.Step.{IsInputInside, IsOfTable, Steps};
-ghost use Rattle.run_audit.specs.Judged.{ChangesNothing, IsFaulty, Judges, MayHaveStepped, WouldChange, kept_change};
+ghost use Rattle.run_audit.specs.Judged.{ChangesNothing, IsFaulty, Judges, MayHaveStepped, WouldChange, changes_with, kept_change};
 ghost use Rattle.run_audit.specs.Replay.{IsInSituation};
 
+use crate::copies::{copy_of, copy_of_kept};
 use crate::replay::Replay;
 use crate::words::{cause_of, fate_told, is_answer_told, member_of};
 use cluster_sched::SchedRow;
@@ -34,6 +36,8 @@ use zone_minutes::Minute;
 pub struct Judged {
     pub turn: Turn,
     pub out: StepOut,
+    /// The change that a stop within the step has lost, where it has.
+    pub lost: Option<Delta>,
 }
 
 // What comes of a turn that is no step: the change that was kept, where one was. It takes no memory.
@@ -50,36 +54,6 @@ fn change_alone(alloc: Global, change: Option<Delta>) -> StepOut
         },
         call: None,
     }
-}
-
-// An equal change.
-fn copy_of(change: &Delta) -> Result<Delta, OutOfMemory>
-    ensures { IfOk result (λ copy. copy ≡ change.now) }
-{
-    match change {
-        Delta::Tried(ballot) => Ok(Delta::Tried(*ballot)),
-        Delta::Promised(ballot) => Ok(Delta::Promised(*ballot)),
-        Delta::Voted(vote) => Ok(Delta::Voted(*vote)),
-        Delta::Base { slot, rows } => {
-            let rows = rows.clone()?;
-            Ok(Delta::Base { slot: *slot, rows })
-        }
-    }
-}
-
-// The same, of what a replica keeps.
-fn copy_of_kept(kept: &Durable) -> Result<Durable, OutOfMemory>
-    ensures { IfOk result (λ copy. copy ≡ kept.now) }
-{
-    let votes = kept.votes.clone()?;
-    let rows = kept.rows.clone()?;
-    Ok(Durable {
-        tried: kept.tried,
-        promised: kept.promised,
-        votes,
-        base: kept.base,
-        rows,
-    })
 }
 
 // What a replica is told of a cause, where it may have a turn for that: the answer that waits for it is this.
@@ -177,21 +151,22 @@ fn change_of(
     }
 }
 
-// What comes of a stop within a step that makes this change, which is kept or lost.
+// What comes of a stop within a step that makes this change, which is kept or lost; and the change, where it is lost.
 fn stopped_with(
     alloc: Global,
     kept: &mut Durable,
     change: Delta,
     keeps: bool,
-) -> Result<StepOut, OutOfMemory>
-    ensures is { IfOk result (λ out. out ≡ change_alone (kept_change keeps change)) }
-    ensures kept { IfOk result (λ out. kept.new ≡ kept_after out.delta kept.old) }
+) -> Result<(StepOut, Option<Delta>), OutOfMemory>
+    ensures is { IfOk result (λ left. left.0 ≡ change_alone (kept_change keeps change)) }
+    ensures kept { IfOk result (λ left. kept.new ≡ kept_after left.0.delta kept.old) }
+    ensures lost { IfOk result (λ left. left.1 ≡ kept_change (not keeps) change) }
 {
     if !keeps {
-        return Ok(change_alone(alloc, None));
+        return Ok((change_alone(alloc, None), Some(change)));
     }
     kept.apply(copy_of(&change)?)?;
-    Ok(change_alone(alloc, Some(change)))
+    Ok((change_alone(alloc, Some(change)), None))
 }
 
 // A replica that starts again with what it kept.
@@ -207,6 +182,18 @@ fn restarted(table: &JobTable, who: u8, members: u8, kept: &Durable) -> Result<R
         return Err(OutOfMemory);
     }
     Ok(Replica::start(who, members, table, copy_of_kept(kept)?)?)
+}
+
+impl Judged {
+    /// The change of the step, which was kept or lost, where there is one.
+    pub fn change(&self) -> &Option<Delta>
+        ensures { option_to_list result.now ≡ changes_with self.now.out.delta self.now.lost }
+    {
+        match &self.out.delta {
+            Some(_) => &self.out.delta,
+            None => &self.lost,
+        }
+    }
 }
 
 impl Replay {
@@ -239,6 +226,7 @@ impl Replay {
         Ok(Some(Judged {
             turn: Turn::Arrived { late },
             out,
+            lost: None,
         }))
     }
 
@@ -261,6 +249,7 @@ impl Replay {
                 kept: false,
             },
             out,
+            lost: None,
         }))
     }
 
@@ -281,6 +270,7 @@ impl Replay {
         Ok(Some(Judged {
             turn: Turn::Restarted { who },
             out,
+            lost: None,
         }))
     }
 
@@ -336,6 +326,7 @@ impl Replay {
                         call: None,
                     },
                     out,
+                    lost: None,
                 }))
             }
             None => Ok(None),
@@ -375,6 +366,7 @@ impl Replay {
                 call: Some(made),
             },
             out,
+            lost: None,
         }))
     }
 
@@ -405,16 +397,17 @@ impl Replay {
             Some(change) => change,
             None => return Ok(None),
         };
-        let out = stopped_with(self.alloc, &mut seat.kept, change, kept)?;
+        let left = stopped_with(self.alloc, &mut seat.kept, change, kept)?;
         seat.replica = None;
-        self.book.reserve(&out)?;
+        self.book.reserve(&left.0)?;
         Ok(Some(Judged {
             turn: Turn::Stopped {
                 who,
                 cause: Some(cause),
                 kept,
             },
-            out,
+            out: left.0,
+            lost: left.1,
         }))
     }
 

@@ -3,6 +3,7 @@ ghost use Rattle.std.specs.Prelude.{◌≡◌, ◌++◌, ◌∷◌, [], ℕ, ℤ
 ghost use Rattle.due_set.specs.Table.{Table};
 ghost use Rattle.script_text.specs.declared.command.Command.{Command};
 ghost use Rattle.history.specs.Book.{Row};
+ghost use Rattle.job_table.specs.Names.{HaveWordNames};
 ghost use Rattle.script_semantics.specs.Script.{IsPartOf};
 ghost use Rattle.script_semantics.specs.Settling.{Walks};
 ghost use Rattle.script_semantics.specs.Situation.{Situation};
@@ -54,4 +55,11 @@ pub fn a_text_has_one_verdict()
 pub fn a_journal_is_that_of_its_book()
     ensures { (table : Table) (script : List Command) (book : BookState) (rows : List Row) (text : List ℕ)
         → StandsBehind table rows book → IsJournal book.members table script text rows → IsBookJournal table script book text }
+{}
+
+/// The journal that a program writes of a book is a journal of its script, in a table whose jobs' names are words: an audit that says so of
+/// just the journals says it of just the texts that are written.
+pub fn the_journal_of_a_book_is_a_journal()
+    ensures { (table : Table) (script : List Command) (book : BookState) (text : List ℕ) → HaveWordNames table.jobs
+        → IsBookJournal table script book text → (rows : List Row) × StandsBehind table rows book × IsJournal book.members table script text rows }
 {}

@@ -17,8 +17,8 @@ use history::{CallRow, Cause, Turn};
 use paxos_base::Delta;
 use zone_minutes::Minute;
 
-// How many calls of a disk save the change of a step, where it has one.
-fn calls_to_save(change: &Option<Delta>) -> u32
+/// How many calls of a disk save the change of a step, where it has one.
+pub(crate) fn calls_to_save(change: &Option<Delta>) -> u32
     ensures { result ≡ calls_for (option_to_list change.now) }
 {
     match change {
@@ -124,7 +124,7 @@ impl Replay {
             → IsReplayAt table.now (rows ++ is.row ∷ []) self.new (after_turn old.book.members situation is.row) }
         ensures members { self.new.book.members ≡ self.old.book.members }
     {
-        let Judged { turn, out } = judged;
+        let Judged { turn, out, lost: _ } = judged;
         self.note(turn, &out.delta);
         self.book.commit(table, turn, out);
     }

@@ -44,8 +44,8 @@ fn one_if(alloc: Global, asked: bool, task: Task) -> Result<Vec<Task>, OutOfMemo
     Ok(tasks)
 }
 
-// What a clock reads that is so many minutes ahead, held within the window.
-fn reading_of(skew: i64, window: Window, at: Minute) -> Minute
+/// What a clock reads that is so many minutes ahead, held within the window.
+pub(crate) fn reading_of(skew: i64, window: Window, at: Minute) -> Minute
     requires limits { IsWithinLimits window }
     requires inside { IsInWindow window at.0 }
     ensures { result ≡ clock_reading window at.0 skew }

@@ -84,5 +84,5 @@ returns c = λ rows situation is.
     let would : WouldChange c.args.table.now c.in-Some.input c.in-Some-replica.replica c.in-Some-2.change =
     subst (λ found. IfSome found (WouldChange c.args.table.now c.in-Some.input c.in-Some-replica.replica)) c.in-Some-2.is c.in_ok-change.ensures.some in
     judged_within c.args.table.now rows c.args.self.now situation c.args.who c.args.cause c.args.kept is c.index_mut-seat.result.now c.in-Some-replica.replica c.in-Some.input there c.in-Some-replica.is
-    (c.in-Some.ensures.is rows is.behind waits) c.in-Some.ensures.inside c.in-Some-2.change would _ (record { kept = c.stopped_with.new.kept; replica = None }) c.in_ok-out.out
-    c.in_ok-out.ensures.is c.in_ok-reserve.ensures.same c.in_ok-reserve.ensures.room refl refl c.in_ok-out.ensures.kept refl refl refl
+    (c.in-Some.ensures.is rows is.behind waits) c.in-Some.ensures.inside c.in-Some-2.change would _ (record { kept = c.stopped_with.new.kept; replica = None }) c.in_ok-left.left.0 c.in_ok-left.left.1
+    c.in_ok-left.ensures.is c.in_ok-left.ensures.lost c.in_ok-reserve.ensures.same c.in_ok-reserve.ensures.room refl refl c.in_ok-left.ensures.kept refl refl refl
