@@ -45,7 +45,7 @@ cause_numbers members table standing who (Tick now) event letters is = tt
 cause_numbers members table standing who (Hear letter) event letters is = let within = slice_get_within standing.posted letter is.letter is.there in omega (arith, within, letters)
 cause_numbers members table standing who Answer event letters is = tt
 
-turn_numbers : (members : ℕ) (table : Table) (standing : Standing) (turn : Turn) (row : Row) → length standing.posted < 2 ^ 64 → length standing.late < 2 ^ 64 → MayFollow members table standing turn row → HasNumbers turn
+pub turn_numbers : (members : ℕ) (table : Table) (standing : Standing) (turn : Turn) (row : Row) → length standing.posted < 2 ^ 64 → length standing.late < 2 ^ 64 → MayFollow members table standing turn row → HasNumbers turn
 turn_numbers members table standing (Did who cause made) row letters late may = cause_numbers members table standing who cause row.event letters may.0.event_of
 turn_numbers members table standing (Stopped who None kept) row letters late may = tt
 turn_numbers members table standing (Stopped who (Some cause) kept) row letters late may = cause_numbers members table standing who cause row.event letters may.0.event_of
@@ -54,15 +54,15 @@ turn_numbers members table standing (Arrived number) row letters late may = let 
 
 -- ---- lines
 
-no_end : (line behind : List ℕ) → [] ≡ line ++ 10 ∷ behind → ⊥
+pub no_end : (line behind : List ℕ) → [] ≡ line ++ 10 ∷ behind → ⊥
 no_end [] behind same = cc
 no_end (byte ∷ line) behind same = cc
 
 -- of a text that begins with a line there is one
-first_one : (text line other rest behind : List ℕ) → IsLineFirst text line rest → IsLineFirst text other behind → line ≡ other
+pub first_one : (text line other rest behind : List ℕ) → IsLineFirst text line rest → IsLineFirst text other behind → line ≡ other
 first_one text line other rest behind a b = (same_cut 10 line other rest behind a.lacks b.lacks (sym a.parts ∙ b.parts)).0
 
-words_one : (table : Table) (number : ℕ) (a b : Turn) → turn_line table (number, a) ≡ turn_line table (number, b) → turn_words table a ≡ turn_words table b
+pub words_one : (table : Table) (number : ℕ) (a b : Turn) → turn_line table (number, a) ≡ turn_line table (number, b) → turn_words table a ≡ turn_words table b
 words_one table number a b same =
     let rest : 32 ∷ turn_words table a ≡ 32 ∷ turn_words table b = append_cancel_left (decimal number) (32 ∷ turn_words table a) (32 ∷ turn_words table b) same in
     cc

@@ -1,5 +1,5 @@
 -- Lines that can begin a journal: without the last of them they can begin one too.
-use Rattle.std.proofs.Common.{◌≡◌, ℕ, zero, suc, ◌+◌, ◌<◌, ◌≤◌, List, [], ◌∷◌, ◌++◌, append-nil, append_assoc, drop, get_or, inl, inr, length, take, Option, None, Some, refl, ap, sym, subst, ◌∙◌, arith, codes}
+use Rattle.std.proofs.Common.{◌≡◌, ℕ, zero, suc, ◌+◌, ◌<◌, ◌≤◌, List, [], ◌∷◌, ◌++◌, ◌⊎◌, append-nil, append_assoc, drop, get_or, inl, inr, length, take, Option, None, Some, refl, ap, sym, subst, ◌∙◌, arith, codes}
 use Rattle.std.specs.Prelude.{◌-ℤ◌, pos, slice_get}
 use Rattle.std.proofs.lemmas.Bool.{cases_lt}
 use Rattle.std.proofs.lemmas.List.{drop-append-le, get_or_append_left, get_or_at, get_or_default, length-append, length-map, map-append, take-append-drop, take-append-le, take_all, take_at, take_more, drop_at}
@@ -27,7 +27,7 @@ use Rattle.run_audit.proofs.SoFarLemmas.{by_last, part_more, turn_more}
 
 -- ---- lists
 
-same_front : {A : Type 0} (xs ys : List A) (x y : A) → xs ++ x ∷ [] ≡ ys ++ y ∷ [] → xs ≡ ys
+pub same_front : {A : Type 0} (xs ys : List A) (x y : A) → xs ++ x ∷ [] ≡ ys ++ y ∷ [] → xs ≡ ys
 same_front [] [] x y same = refl
 same_front [] (z ∷ ys) x y same =
     let rest : [] ≡ ys ++ y ∷ [] = cc in absurd (empty ys y rest)
@@ -76,7 +76,7 @@ module _ (members : ℕ) (table : Table) where
       record { fronts = cut.0; backs = cut.1; ends = ends.same }
 
   -- the last of some commands has its part behind those of the others
-  last_command : (script : List Command) (place : ℕ) (given : Command) (situation : Situation) (rows : List Row) (after : Situation)
+  pub last_command : (script : List Command) (place : ℕ) (given : Command) (situation : Situation) (rows : List Row) (after : Situation)
       → slice_get script place ≡ Some given → ArePartsOf members table (take (suc place) script) situation rows after
       → Then (ArePartsOf members table (take place script)) (IsPartOf members table given) situation rows after
   last_command [] place given situation rows after there are = absurd cc
@@ -106,7 +106,7 @@ module _ (members : ℕ) (table : Table) where
 
   module _ (script : List Command) where
     -- the turns behind the last start, where there is one
-    in_last : (starts : List ℕ) (place : ℕ) (rows : List Row) → length starts ≡ suc place
+    pub in_last : (starts : List ℕ) (place : ℕ) (rows : List Row) → length starts ≡ suc place
         → IsInPart members table script place (take (get_or starts place 0) rows) (drop (get_or starts place 0) rows) → IsInLastPart members table script starts rows
     in_last [] place rows size is = absurd (omega (arith, size))
     in_last (start ∷ starts) place rows size is =
@@ -225,43 +225,73 @@ module _ (members : ℕ) (table : Table) where
 
     -- ---- lines
 
-    abbrev parts : ℕ
+    abbrev pub parts : ℕ
     parts = suc (length script)
 
-    abbrev lines_with : List Row → List ℕ → List (List ℕ)
+    abbrev pub lines_with : List Row → List ℕ → List (List ℕ)
     lines_with rows starts = lines_so_far table parts (turns_of rows) starts
 
-    without_turn : (lines : List (List ℕ)) (line : List ℕ) (rows : List Row) (row : Row) (start : ℕ) (starts : List ℕ) → IsLegal members table (rows ++ row ∷ [])
-        → ObeysSoFar members table script (rows ++ row ∷ []) (start ∷ starts) → get_or (start ∷ starts) (length starts) 0 ≤ length rows
-        → lines ++ line ∷ [] ≡ lines_with (rows ++ row ∷ []) (start ∷ starts) → CanBegin members table script lines
-    without_turn lines line rows row start starts legal obeys low are =
+    -- the first line is the last one
+    pub record LastIsFirst (rows : List Row) (starts : List ℕ) : Type 0 where
+      pub no_rows : rows ≡ []
+      pub no_starts : starts ≡ []
+      pub are : lines_with rows starts ≡ codes "cron journal 1" ∷ []
+
+    -- the last line is that before a part
+    pub record LastIsPart (rows : List Row) (starts : List ℕ) : Type 0 where
+      pub before : List ℕ
+      pub is : starts ≡ before ++ length rows ∷ []
+      pub obeys : ObeysSoFar members table script rows before
+      pub are : lines_with rows starts ≡ lines_with rows before ++ part_head parts (length before) ∷ []
+
+    -- the last line is that of a turn
+    pub record LastIsTurn (rows : List Row) (starts : List ℕ) : Type 0 where
+      pub front : List Row
+      pub row : Row
+      pub is : rows ≡ front ++ row ∷ []
+      pub some : 0 < length starts
+      pub legal : IsLegal members table front
+      pub obeys : ObeysSoFar members table script front starts
+      pub are : lines_with rows starts ≡ lines_with front starts ++ turn_line table (length front, row.turn) ∷ []
+
+    abbrev pub HasLast : List Row → List ℕ → Type 0
+    HasLast rows starts = LastIsFirst rows starts ⊎ (LastIsPart rows starts ⊎ LastIsTurn rows starts)
+
+    last_turn : (rows front : List Row) (row : Row) (start : ℕ) (starts : List ℕ) → rows ≡ front ++ row ∷ [] → IsLegal members table rows → ObeysSoFar members table script rows (start ∷ starts)
+        → get_or (start ∷ starts) (length starts) 0 ≤ length front → LastIsTurn rows (start ∷ starts)
+    last_turn rows front row start starts is legal obeys low =
         let all = start ∷ starts in
-        let less = turn_less rows row start starts obeys low in
-        let turns : turns_of (rows ++ row ∷ []) ≡ turns_of rows ++ row.turn ∷ [] = map-append (λ (r : Row). r.turn) rows (row ∷ []) in
-        let count : length (turns_of rows) ≡ length rows = length-map rows (λ (r : Row). r.turn) in
-        let longer : lines_so_far table parts (turns_of rows ++ row.turn ∷ []) all ≡ lines_with rows all ++ turn_line table (length (turns_of rows), row.turn) ∷ [] =
-        turn_more table parts (turns_of rows) row.turn all (length starts) refl (λ place lt. (let bound = less.within place 0 lt in omega (arith, count, bound))) in
-        let front : lines ≡ lines_with rows all =
-        same_front lines (lines_with rows all) line (turn_line table (length (turns_of rows), row.turn))
-        (are ∙ ap (λ (l : List Turn). lines_so_far table parts l all) turns ∙ longer) in
-        let cut : take (length rows) (rows ++ row ∷ []) ≡ rows = take_at rows (row ∷ []) (length rows) refl in
-        let lawful : IsLegal members table rows = subst (IsLegal members table) cut (cut_is_legal members table (rows ++ row ∷ []) (length rows) legal) in
-        (rows, inr (inl (record { legal = lawful; starts = all; obeys = less; are = front })))
+        let less = turn_less front row start starts (subst (λ (l : List Row). ObeysSoFar members table script l all) is obeys) low in
+        let turns : turns_of (front ++ row ∷ []) ≡ turns_of front ++ row.turn ∷ [] = map-append (λ (r : Row). r.turn) front (row ∷ []) in
+        let count : length (turns_of front) ≡ length front = length-map front (λ (r : Row). r.turn) in
+        let longer : lines_so_far table parts (turns_of front ++ row.turn ∷ []) all ≡ lines_with front all ++ turn_line table (length (turns_of front), row.turn) ∷ [] =
+        turn_more table parts (turns_of front) row.turn all (length starts) refl (λ place lt. (let bound = less.within place 0 lt in omega (arith, count, bound))) in
+        let cut : take (length front) (front ++ row ∷ []) ≡ front = take_at front (row ∷ []) (length front) refl in
+        record {
+          front = front;
+          row = row;
+          is = is;
+          some = omega arith;
+          legal = subst (IsLegal members table) cut (cut_is_legal members table (front ++ row ∷ []) (length front) (subst (IsLegal members table) is legal));
+          obeys = less;
+          are = ap (λ (l : List Row). lines_with l all) is ∙ ap (λ (l : List Turn). lines_so_far table parts l all) turns ∙ longer
+              ∙ ap (λ n. lines_with front all ++ turn_line table (n, row.turn) ∷ []) count;
+        }
 
-    without_part : (lines : List (List ℕ)) (line : List ℕ) (rows : List Row) (starts : List ℕ) → IsLegal members table rows
-        → ObeysSoFar members table script rows (starts ++ length rows ∷ []) → lines ++ line ∷ [] ≡ lines_with rows (starts ++ length rows ∷ [])
-        → CanBegin members table script lines
-    without_part lines line rows starts legal obeys are =
+    last_part : (rows : List Row) (starts before : List ℕ) → starts ≡ before ++ length rows ∷ [] → ObeysSoFar members table script rows starts → LastIsPart rows starts
+    last_part rows starts before is obeys =
         let count : length rows ≡ length (turns_of rows) = sym (length-map rows (λ (r : Row). r.turn)) in
-        let front : lines ≡ lines_with rows starts =
-        same_front lines (lines_with rows starts) line (part_head parts (length starts))
-        (are ∙ ap (λ n. lines_with rows (starts ++ n ∷ [])) count ∙ part_more table parts (turns_of rows) starts) in
-        (rows, inr (inl (record { legal = legal; starts = starts; obeys = part_less rows starts obeys; are = front })))
+        record {
+          before = before;
+          is = is;
+          obeys = part_less rows before (subst (ObeysSoFar members table script rows) is obeys);
+          are = ap (lines_with rows) is ∙ ap (λ n. lines_with rows (before ++ n ∷ [])) count ∙ part_more table parts (turns_of rows) before;
+        }
 
-    so_far_less : (lines : List (List ℕ)) (line : List ℕ) (rows : List Row) (starts : List ℕ) → IsLegal members table rows → ObeysSoFar members table script rows starts
-        → lines ++ line ∷ [] ≡ lines_with rows starts → CanBegin members table script lines
-    so_far_less lines line rows [] legal obeys are = ([], inl (same_front lines [] line (codes "cron journal 1") are, refl))
-    so_far_less lines line rows (start ∷ starts) legal obeys are =
+    -- **Lines as far as a journal has come have a last one**: the first line, that before a part, or that of a turn.
+    pub has_last : (rows : List Row) (starts : List ℕ) → IsLegal members table rows → ObeysSoFar members table script rows starts → HasLast rows starts
+    has_last rows [] legal obeys = inl (record { no_rows = obeys.last; no_starts = refl; are = ap (λ (l : List Row). lines_with l []) obeys.last })
+    has_last rows (start ∷ starts) legal obeys =
         let all = start ∷ starts in
         let last = get_or all (length starts) 0 in
         elim (cases_lt last (length rows)) [
@@ -269,9 +299,7 @@ module _ (members : ℕ) (table : Table) where
             | inl none ↦ absurd (let empty : length rows ≡ 0 = ap length none in omega (arith, lt, empty))
             | inr some ↦
                 let size : length rows ≡ length some.0 + 1 = ap length some.2 ∙ length-append some.0 (some.1 ∷ []) in
-                without_turn lines line some.0 some.1 start starts (subst (IsLegal members table) some.2 legal)
-                (subst (λ (l : List Row). ObeysSoFar members table script l all) some.2 obeys) (omega (arith, lt, size))
-                (subst (λ (l : List Row). lines ++ line ∷ [] ≡ lines_with l all) some.2 are)
+                inr (inr (last_turn rows some.0 some.1 start starts some.2 legal obeys (omega (arith, lt, size))))
           ]
           | inr past ↦
               let bound = obeys.within (length starts) 0 (omega arith) in
@@ -279,12 +307,35 @@ module _ (members : ℕ) (table : Table) where
               let whole : take (length starts + 1) all ≡ all = take_all (length starts + 1) all (omega arith) in
               let ends : all ≡ take (length starts) all ++ length rows ∷ [] =
               sym whole ∙ take_more all (length starts) 0 (omega arith) ∙ ap (λ n. take (length starts) all ++ n ∷ []) is_last in
-              without_part lines line rows (take (length starts) all) legal (subst (ObeysSoFar members table script rows) ends obeys)
-              (subst (λ (s : List ℕ). lines ++ line ∷ [] ≡ lines_with rows s) ends are)
+              inr (inl (last_part rows all (take (length starts) all) ends obeys))
         ]
 
+    so_far_less : (lines : List (List ℕ)) (line : List ℕ) (rows : List Row) (starts : List ℕ) → IsLegal members table rows → ObeysSoFar members table script rows starts
+        → lines ++ line ∷ [] ≡ lines_with rows starts → CanBegin members table script lines
+    so_far_less lines line rows starts legal obeys are = elim (has_last rows starts legal obeys) [
+      | inl first ↦ ([], inl (same_front lines [] line (codes "cron journal 1") (are ∙ first.are), refl))
+      | inr (inl part) ↦ (
+        rows,
+        inr (inl (record {
+          legal = legal;
+          starts = part.before;
+          obeys = part.obeys;
+          are = same_front lines (lines_with rows part.before) line (part_head parts (length part.before)) (are ∙ part.are);
+        })),
+      )
+      | inr (inr turn) ↦ (
+        turn.front,
+        inr (inl (record {
+          legal = turn.legal;
+          starts = starts;
+          obeys = turn.obeys;
+          are = same_front lines (lines_with turn.front starts) line (turn_line table (length turn.front, turn.row.turn)) (are ∙ turn.are);
+        })),
+      )
+    ]
+
     -- a whole journal begins with its lines but the last one
-    begins_whole : (rows : List Row) (starts : List ℕ) → BeginAt members table script rows starts → ObeysSoFar members table script rows starts
+    pub begins_whole : (rows : List Row) (starts : List ℕ) → BeginAt members table script rows starts → ObeysSoFar members table script rows starts
     begins_whole rows starts begin = record {
       few = omega (arith, begin.count);
       within = begin.within;

@@ -32,3 +32,14 @@ pub mod DiskLemmas
 pub mod NewlineLemmas
 pub mod ProgressLemmas
 pub mod FreelyLemmas
+pub mod NumberLemmas
+pub mod LastLemmas
+pub mod NextLemmas
+pub mod FaultLemmas
+pub mod HeadingLemmas
+pub mod ScriptLemmas
+pub mod ComeLemmas
+pub mod PlayedLemmas
+pub mod WalkedLemmas
+pub mod EndingLemmas
+pub mod AuditLemmas

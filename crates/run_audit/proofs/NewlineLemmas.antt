@@ -1,13 +1,11 @@
 -- The lines of a journal have no newline in them, where no job's name has one: so the journal of a book falls into its lines.
-use Rattle.std.proofs.Common.{◌≡◌, ◌≢◌, ℕ, suc, ◌+◌, ◌<◌, ◌≤◌, ◌==◌, Bool, true, false, cond, List, [], ◌∷◌, ◌++◌, append-nil, length, map, Option, Some, None, refl, ap, sym, subst, ◌∙◌, arith, codes, decimal, rules}
-use Rattle.std.specs.Prelude.{All, slice_get, get_or, take, drop, ◌-◌, ℤ}
-use Rattle.std.specs.List.{AllByRecursion, enumerate_from, flat_map, range_with_len}
+use Rattle.std.proofs.Common.{◌≡◌, ℕ, suc, ◌+◌, ◌==◌, Bool, true, false, cond, List, [], ◌∷◌, ◌++◌, append-nil, length, map, Option, Some, None, refl, ap, sym, ◌∙◌, arith, codes, decimal, rules}
+use Rattle.std.specs.Prelude.{slice_get, ◌-◌, ℤ}
+use Rattle.std.specs.List.{AllByRecursion, flat_map, range_with_len}
 use Rattle.std.proofs.lemmas.List.Elements.{All-weaker}
 use Rattle.due_set.proofs.TableLemmas.{All-slice_get}
 use Rattle.cron_io.specs.Lines.{text_of_lines}
-use Rattle.zone_minutes.specs.Civil.{civil_at}
-use Rattle.zone_minutes.specs.Stamp.{basic_stamp_text, date_text, extended_text, stamp_text, two_digits}
-use Rattle.zone_minutes.specs.declared.civil.Civil.{Civil}
+use Rattle.zone_minutes.specs.Stamp.{basic_stamp_text, date_text, stamp_text}
 use Rattle.cluster_sched.specs.Names.{job_kind, job_name, name_of, name_text, time_text}
 use Rattle.cluster_sched.specs.declared.fate.Fate.{Fate}
 use Rattle.cluster_sched.specs.declared.fate.Fate.TheVariants.{Done, LostBefore, LostAfter, Late}
@@ -29,7 +27,7 @@ use Rattle.history.specs.declared.turn.Turn.{Turn}
 use Rattle.history.specs.declared.turn.Turn.TheVariants.{Did, Stopped, Restarted, Arrived}
 use Rattle.world_law.specs.Book.{BookState, StandsBehind}
 use Rattle.journal_line.specs.Line.{IsUnblank}
-use Rattle.journal_text.specs.Journal.{answer_words, call_words, cause_words, end_word, journal_text, kept_word, part_head, part_lines, part_turns, stop_words, turn_line, turn_words, word_of_fate}
+use Rattle.journal_text.specs.Journal.{answer_words, call_words, cause_words, end_word, kept_word, part_head, part_lines, part_turns, stop_words, turn_line, turn_words, word_of_fate}
 use Rattle.journal_text.specs.Line.{HasUnblankNames}
 use Rattle.journal_text.specs.Starts.{IsBookJournal}
 use Rattle.run_audit.specs.Sound.{lines_so_far, turns_of}
@@ -134,7 +132,7 @@ line_lacks table numbered names =
 abbrev Lack : List (List ℕ) → Type 0
 Lack lines = AllByRecursion LacksNewline lines
 
-lists_lack : (front back : List (List ℕ)) → Lack front → Lack back → Lack (front ++ back)
+pub lists_lack : (front back : List (List ℕ)) → Lack front → Lack back → Lack (front ++ back)
 lists_lack [] back one two = two
 lists_lack (line ∷ lines) back one two = (one.0, lists_lack lines back one.1 two)
 
@@ -145,7 +143,7 @@ head_lacks parts place = both_lack (codes "command ") (cond (suc place == parts)
     by true = search rules
     by false = digits_lack (suc place)
 
-turns_lack : (table : Table) (turns : List (ℕ × Turn)) → HaveWordNames table.jobs → Lack (map (turn_line table) turns)
+pub turns_lack : (table : Table) (turns : List (ℕ × Turn)) → HaveWordNames table.jobs → Lack (map (turn_line table) turns)
 turns_lack table [] names = tt
 turns_lack table (turn ∷ turns) names = (line_lacks table turn names, turns_lack table turns names)
 

@@ -15,3 +15,5 @@ pub mod Taken
 pub mod Tasks
 pub mod Turns
 pub mod Verdict
+pub mod Headings
+pub mod Audit

@@ -1,5 +1,6 @@
-//! What an audit of a run's journal stands on: a replay of the run by the lines of its journal, and laws of which lines
-//! can begin a journal of the run. A `Replay` holds a legal book and the situation after its
+//! An audit of a run and its journal, which trusts nobody: a replay of the run by the lines of its journal, and laws of
+//! which lines can begin a journal of the run. `audit` says of a text whether it is a journal of the run, with the book of
+//! its turns, or which of its lines is the first that can't be one of a journal, and why (`IsVerdict`). A `Replay` holds a legal book and the situation after its
 //! turns (`IsReplayAt`). `Rest::read` reads a text line by line. `Replay::judge` says of a line which turn it tells that
 //! may come next, or that it tells none (`Judges`), `Replay::take` lets that turn join the book, and `Replay::go_on` does
 //! both (`GoesOn`); a `Judged` turn has the change of its step, also where a stop has lost it. `Replay::set_by`, `arm`,
@@ -19,15 +20,14 @@
 //! (`IsJournal`, `a_journal_is_that_of_its_book`), and the text that is written of such a book is one
 //! (`the_journal_of_a_book_is_a_journal`); no such text has a first line at fault, and no text has two
 //! (`IsAtFault`, `a_text_has_one_verdict`).
-//!
-//! Nothing here plays a whole journal yet: no call says of a text whether it is a journal of the run, and no law says that
-//! each text is one or has a line at fault.
 #![tactic(auto)]
 
 mod arms;
 mod copies;
 mod deliver;
 mod free;
+mod heading;
+mod journal;
 mod judge;
 mod laws;
 mod lines;
@@ -35,6 +35,7 @@ mod parts;
 mod play;
 mod quiet;
 mod replay;
+mod script;
 mod setting;
 mod settle;
 mod start;
@@ -44,6 +45,7 @@ mod turns;
 mod verdict;
 mod words;
 
+pub use journal::{Verdict, audit};
 pub use judge::Judged;
 pub use laws::{
     a_journal_is_judged_line_by_line, a_journal_is_that_of_its_book, a_part_begins_with_its_turns,
