@@ -15,7 +15,8 @@ use Rattle.script_semantics.specs.Round.{round_tasks}
 use Rattle.script_semantics.specs.Script.{IsPartOf}
 use Rattle.script_semantics.specs.Settling.{Drains, DrainsIn, IsDrainRound, IsLedToQuiet, Settles, Walks, WalksIn, WalksOn, cleared, coordinator, restart_tasks}
 use Rattle.script_semantics.specs.Situation.{AreTurnsFor, Situation, Task, Do, after_turn}
-use Rattle.run_audit.specs.Begins.{BeginsDrain, BeginsDrainIn, BeginsDrainRound, BeginsFree, BeginsPart, BeginsRounds, BeginsSettling, BeginsThen, BeginsToLead, BeginsToPlay, BeginsToPlayByArms, BeginsTurnsByArms, BeginsTurnsFor, BeginsWalk, BeginsWalkIn, BeginsWalkOn, NoneYet, standing_tasks}
+use Rattle.run_replay.specs.Tasks.{standing_tasks}
+use Rattle.run_audit.specs.Begins.{BeginsDrain, BeginsDrainIn, BeginsDrainRound, BeginsFree, BeginsPart, BeginsRounds, BeginsSettling, BeginsThen, BeginsToLead, BeginsToPlay, BeginsToPlayByArms, BeginsTurnsByArms, BeginsTurnsFor, BeginsWalk, BeginsWalkIn, BeginsWalkOn, NoneYet}
 
 -- what begins with the turns of what is whole
 abbrev pub BeginsAsWhole : (begins : Situation → List Row → Type 0) (whole : Situation → List Row → Situation → Type 0) → Type 0

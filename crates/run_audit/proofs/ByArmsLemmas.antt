@@ -1,6 +1,5 @@
 -- Turns of tasks on disks that may be armed, which are taken one after another by the lines of a text.
-use Rattle.std.proofs.Common.{◌≡◌, ◌↔◌, ◌+◌, ◌<◌, ◌≤◌, ◌^◌, ℕ, Bool, IsTrue, true, false, not, List, [], ◌∷◌, ◌++◌, length, reverse, Option, Some, refl, sym, ap, ◌∙◌, subst, inl, inr, arith, append_assoc}
-use Rattle.std.proofs.Common.{append-nil as append_nil}
+use Rattle.std.proofs.Common.{◌≡◌, ◌↔◌, ◌+◌, ◌<◌, ◌≤◌, ◌^◌, ℕ, Bool, IsTrue, true, false, not, List, [], ◌∷◌, ◌++◌, length, reverse, Option, Some, refl, sym, ap, ◌∙◌, subst, inl, inr, arith, append_assoc, append-nil as append_nil}
 use Rattle.std.specs.List.{filter, slice_get}
 use Rattle.std.specs.Option.{option_to_list}
 use Rattle.std.proofs.lemmas.Bool.{cases_Bool}
@@ -17,22 +16,22 @@ use Rattle.journal_text.specs.Journal.{turn_line}
 use Rattle.script_semantics.specs.Arms.{IsTurnByArm, PlaysByArms, is_task_of}
 use Rattle.script_semantics.proofs.TurnLemmas.{same_changes}
 use Rattle.script_semantics.specs.Situation.{Situation, Task, after_turn, after_turns, changes_in, delivered}
+use Rattle.run_replay.proofs.SettingLemmas.{posted_are}
+use Rattle.run_replay.specs.Replay.{IsInSituation, IsReplayAt}
+use Rattle.run_replay.specs.Judged.{changes_with}
+use Rattle.run_replay.specs.Settings.{ChangesReplay}
+use Rattle.run_replay.specs.Tasks.{task_of, tasks_in}
+use Rattle.run_replay.specs.declared.judge.Judged.{Judged}
+use Rattle.run_replay.specs.declared.replay.Replay.{Replay}
+use Rattle.run_replay.specs.declared.tasks.Task.{Task as Listed}
 use Rattle.run_audit.proofs.ArmLemmas.{LeavesTasks, all_taken, plays_by_stop, task_more}
 use Rattle.run_audit.proofs.ComingLemmas.{out_of_place}
 use Rattle.run_audit.proofs.PlayLemmas.{text_more}
-use Rattle.run_audit.proofs.SettingLemmas.{posted_are}
 use Rattle.run_audit.specs.Begins.{BeginsToPlayByArms}
 use Rattle.run_audit.specs.ByArms.{AreSet, HasStoppedWithin, IsTurnEnding, StopsByArm, TakesByArm, tasks_backwards, tasks_without}
 use Rattle.run_audit.specs.Coming.{ComesJudged, StopsNext, TakesNext}
 use Rattle.run_audit.specs.Played.{GoesOnWith, HasPlayedOn, PlaysPart, StopsPart, lines_from}
-use Rattle.run_audit.specs.Replay.{IsInSituation, IsReplayAt}
-use Rattle.run_audit.specs.Judged.{changes_with}
-use Rattle.run_audit.specs.Settings.{ChangesReplay}
-use Rattle.run_audit.specs.Tasks.{task_of, tasks_in}
-use Rattle.run_audit.specs.declared.judge.Judged.{Judged}
 use Rattle.run_audit.specs.declared.lines.Rest.{Rest}
-use Rattle.run_audit.specs.declared.replay.Replay.{Replay}
-use Rattle.run_audit.specs.declared.tasks.Task.{Task as Listed}
 use Rattle.run_audit.specs.declared.verdict.Stop.{Stop}
 use Rattle.run_audit.specs.declared.verdict.Stop.TheVariants.{At, OutOfMemory}
 use Rattle.run_audit.specs.declared.verdict.Why.TheVariants.{NotObeyed}

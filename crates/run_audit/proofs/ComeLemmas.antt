@@ -17,6 +17,8 @@ use Rattle.script_semantics.specs.Script.{ArePartsOf, IsPartOf}
 use Rattle.script_semantics.specs.Situation.{Situation}
 use Rattle.journal_text.proofs.Twins.{AreTwins}
 use Rattle.journal_text.specs.Journal.{part_head, turn_line}
+use Rattle.run_replay.specs.Replay.{IsReplayAt}
+use Rattle.run_replay.specs.declared.replay.Replay.{Replay}
 use Rattle.run_audit.proofs.BeginLemmas.{part_begins as part_begins_whole, walk_begins}
 use Rattle.run_audit.proofs.EndLemmas.{EndsThere, part_ends, walk_ends}
 use Rattle.run_audit.proofs.StopLemmas.{twins_with}
@@ -28,11 +30,9 @@ use Rattle.run_audit.proofs.ScriptLemmas.{HasComeTo, begun, head_more, part_begi
 use Rattle.run_audit.specs.Headings.{PassesLine}
 use Rattle.run_audit.specs.Played.{GoesOnWith, IsNextReason, StopsIn, lines_from}
 use Rattle.run_audit.specs.Reading.{IsLineFirst}
-use Rattle.run_audit.specs.Replay.{IsReplayAt}
 use Rattle.run_audit.specs.Sound.{BeginsPartOf, CanBegin, ObeysSoFar, turns_of}
 use Rattle.run_audit.specs.Verdict.{IsAtFault}
 use Rattle.run_audit.specs.declared.lines.Rest.{Rest}
-use Rattle.run_audit.specs.declared.replay.Replay.{Replay}
 use Rattle.run_audit.specs.declared.verdict.Why.{Why}
 
 -- ---- texts

@@ -25,15 +25,15 @@ use Rattle.journal_text.proofs.TurnLemmas.{same_turn}
 use Rattle.script_semantics.specs.Situation.{Does, IsTurnFor, Situation, Task, after_turn}
 use Rattle.world_law.proofs.Called.{late_at_rest}
 use Rattle.world_law.specs.Book.{call_of, posted_as, standing_behind}
+use Rattle.run_replay.specs.Judged.{IsJudged, IsNone}
+use Rattle.run_replay.specs.Replay.{IsReplayAt}
+use Rattle.run_replay.specs.declared.judge.Judged.{Judged}
+use Rattle.run_replay.specs.declared.replay.Replay.{Replay}
 use Rattle.run_audit.specs.Coming.{ComesJudged, ComesNone, HaveFates, IsRefusalOf, StopsNext, TakesNext}
-use Rattle.run_audit.specs.Judged.{IsJudged, IsNone}
 use Rattle.run_audit.specs.Played.{GoesOnWith, IsNextReason}
 use Rattle.run_audit.specs.Reading.{GoesOnBadly, IsLineFirst}
-use Rattle.run_audit.specs.Replay.{IsReplayAt}
 use Rattle.run_audit.specs.Verdict.{LacksNewline, MayComeNextAs}
-use Rattle.run_audit.specs.declared.judge.Judged.{Judged}
 use Rattle.run_audit.specs.declared.lines.Rest.{Rest}
-use Rattle.run_audit.specs.declared.replay.Replay.{Replay}
 use Rattle.run_audit.specs.declared.verdict.Why.{Why}
 use Rattle.run_audit.specs.declared.verdict.Why.TheVariants.{BadLine, NotLegal, NotObeyed, Missing}
 

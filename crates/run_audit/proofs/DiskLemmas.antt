@@ -11,10 +11,10 @@ use Rattle.history.specs.declared.turn.Turn.{Turn}
 use Rattle.history.specs.declared.turn.Turn.TheVariants.{Did, Stopped}
 use Rattle.script_semantics.specs.Arms.{IsEnough, IsTurnByArm}
 use Rattle.script_semantics.specs.Situation.{Armed, Does, Situation, Do, calls_for, changes_in}
-use Rattle.run_audit.proofs.TakeLemmas.{odd_or_even}
+use Rattle.run_replay.proofs.TakeLemmas.{odd_or_even}
+use Rattle.run_replay.specs.Replay.{armed_of}
+use Rattle.run_replay.specs.declared.replay.Arm.{Arm}
 use Rattle.run_audit.specs.ByArms.{StopsBy}
-use Rattle.run_audit.specs.Replay.{armed_of}
-use Rattle.run_audit.specs.declared.replay.Arm.{Arm}
 
 -- the low bit of the byte that selects the other area
 pub other_when_odd : (bases byte : ℕ) (second : Bool) → second ≡ true → second ≡ (bases % 2 == 1) → (byte % 2 == 0) ≡ (byte % 2 == (bases + 1) % 2)

@@ -21,7 +21,8 @@ use Rattle.script_semantics.specs.Situation.{AreTurnsFor, Situation, Task, Do, a
 use Rattle.journal_text.proofs.Courses.{course_alike}
 use Rattle.journal_text.proofs.Determined.{EndAlike, drain_round_alike, drains_alike, plain_alike, plays_alike, plays_by_alike, same_minute, settles_alike}
 use Rattle.journal_text.proofs.Twins.{AreTwins, after_twin}
-use Rattle.run_audit.specs.Begins.{BeginsDrain, BeginsDrainIn, BeginsDrainRound, BeginsFree, BeginsPart, BeginsRounds, BeginsSettling, BeginsThen, BeginsToLead, BeginsToPlay, BeginsToPlayByArms, BeginsTurnsByArms, BeginsTurnsFor, BeginsWalk, BeginsWalkIn, BeginsWalkOn, NoneYet, standing_tasks}
+use Rattle.run_replay.specs.Tasks.{standing_tasks}
+use Rattle.run_audit.specs.Begins.{BeginsDrain, BeginsDrainIn, BeginsDrainRound, BeginsFree, BeginsPart, BeginsRounds, BeginsSettling, BeginsThen, BeginsToLead, BeginsToPlay, BeginsToPlayByArms, BeginsTurnsByArms, BeginsTurnsFor, BeginsWalk, BeginsWalkIn, BeginsWalkOn, NoneYet}
 
 -- no turn comes behind what is whole: of the same turns and one more, and whatever is behind that, none begin the part
 abbrev pub EndsThere : ℕ → (begins : Situation → List Row → Type 0) (whole : Situation → List Row → Situation → Type 0) → Type 0

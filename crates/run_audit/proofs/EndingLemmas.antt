@@ -1,16 +1,16 @@
 -- What a text comes to that a script is played by: a journal, or a line at fault.
 use Rattle.std.proofs.Common.{◌≡◌, ◌⊎◌, ◌==◌, ℕ, suc, ◌+◌, ◌<◌, ◌≤◌, Bool, List, [], ◌++◌, eq-eqb, inl, inr, length, refl, Result, Ok, Err, Some, ap, sym, subst, ◌∙◌, arith, codes, decimal}
-use Rattle.std.specs.Prelude.{⊤, IfErr, IsErrAnd, OnOk, slice_get, if◌then◌else◌}
+use Rattle.std.specs.Prelude.{⊤, IfErr, IsErrAnd, OnOk, slice_get, if◌then◌else◌, ℤ, ◌-ℤ◌, pos}
 use Rattle.std.proofs.lemmas.Bool.{cases_Bool, eqb-true}
 use Rattle.zone_minutes.specs.Window.{IsWithinLimits}
 use Rattle.due_set.specs.Table.{Table}
 use Rattle.job_table.specs.Names.{HaveWordNames}
 use Rattle.script_semantics.specs.Script.{IsPartOf}
 use Rattle.script_semantics.specs.Situation.{first_situation}
-use Rattle.run_audit.specs.Replay.{IsReplayAt}
+use Rattle.run_replay.specs.Replay.{IsReplayAt}
+use Rattle.run_replay.specs.declared.replay.Replay.{Replay}
 use Rattle.run_audit.proofs.PlayedLemmas.{command_played, command_stops, first_stops, head_stops}
 use Rattle.run_audit.proofs.ScriptLemmas.{HasComeTo}
-use Rattle.std.specs.Prelude.{ℤ, ◌-ℤ◌, pos}
 use Rattle.script_semantics.specs.Settling.{Walks}
 use Rattle.run_audit.proofs.WalkedLemmas.{HasWalked, end_stops, is_journal, last_stops, walk_played, walk_stops}
 use Rattle.run_audit.specs.Begins.{BeginsPart, BeginsWalk}
@@ -20,7 +20,6 @@ use Rattle.script_text.specs.declared.command.Command.{Command}
 use Rattle.journal_text.specs.Journal.{part_head}
 use Rattle.run_audit.specs.Played.{PlaysScript}
 use Rattle.run_audit.specs.Verdict.{IsAtFault}
-use Rattle.run_audit.specs.declared.replay.Replay.{Replay}
 use Rattle.run_audit.specs.declared.verdict.Stop.{Stop}
 use Rattle.run_audit.specs.declared.verdict.Stop.TheVariants.{At, OutOfMemory}
 

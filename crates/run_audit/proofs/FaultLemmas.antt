@@ -1,5 +1,5 @@
 -- Which line of a text is at fault, where it goes on behind lines that can begin a journal.
-use Rattle.std.proofs.Common.{◌≡◌, ◌≢◌, ◌==◌, ℕ, suc, ◌+◌, ◌<◌, true, false, List, [], ◌∷◌, ◌++◌, append_assoc, eq-eqb, inl, inr, length, refl, ap, sym, ◌∙◌, arith}
+use Rattle.std.proofs.Common.{◌≡◌, ◌≢◌, ◌==◌, ℕ, suc, ◌<◌, true, false, List, [], ◌∷◌, ◌++◌, append_assoc, eq-eqb, inl, inr, length, refl, ap, sym, ◌∙◌, arith}
 use Rattle.std.specs.List.{AllByRecursion}
 use Rattle.std.proofs.lemmas.Bool.{cases_Bool, eqb-true}
 use Rattle.cron_io.proofs.LineLemmas.{text_of_lines-append}

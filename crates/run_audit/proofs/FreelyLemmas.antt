@@ -1,6 +1,5 @@
 -- Turns in no order that are taken one after another by the lines of a text.
-use Rattle.std.proofs.Common.{◌≡◌, ◌+◌, ◌<◌, ◌≤◌, ◌^◌, not, ◌↔◌, IsTrue, ℕ, ℤ, Bool, true, false, List, [], ◌∷◌, ◌++◌, length, Option, None, Some, refl, sym, ap, ◌∙◌, subst, inl, inr, arith, append_assoc}
-use Rattle.std.proofs.Common.{append-nil as append_nil}
+use Rattle.std.proofs.Common.{◌≡◌, ◌+◌, ◌<◌, ◌≤◌, ◌^◌, not, ◌↔◌, IsTrue, ℕ, ℤ, Bool, true, false, List, [], ◌∷◌, ◌++◌, length, Option, None, Some, refl, sym, ap, ◌∙◌, subst, inl, inr, arith, append_assoc, append-nil as append_nil}
 use Rattle.std.specs.List.{slice_get}
 use Rattle.std.specs.Option.{option_to_list}
 use Rattle.std.proofs.lemmas.Bool.{cases_lt}
@@ -21,24 +20,24 @@ use Rattle.script_semantics.specs.Arms.{IsTurnByArm}
 use Rattle.script_semantics.specs.Free.{IsFreePart, after_all_posted, course_of, next_cause}
 use Rattle.script_semantics.specs.Situation.{Situation, Do, changes_in}
 use Rattle.world_law.specs.Book.{posted_as}
+use Rattle.run_replay.proofs.SettingLemmas.{seat_runs, some_same}
+use Rattle.run_replay.specs.Judged.{IsJudged, changes_with}
+use Rattle.run_replay.specs.Quiet.{runs_by_seat}
+use Rattle.run_replay.specs.Replay.{IsInSituation, IsReplayAt}
+use Rattle.run_replay.specs.declared.judge.Judged.{Judged}
+use Rattle.run_replay.specs.declared.replay.Replay.{Replay}
+use Rattle.run_replay.specs.declared.replay.Setting.{Setting}
 use Rattle.run_audit.proofs.ByArmsLemmas.{changes_here, changes_there, still_set}
 use Rattle.run_audit.proofs.ComingLemmas.{out_of_place}
 use Rattle.run_audit.proofs.FreeLemmas.{free_more, free_stops, free_whole}
 use Rattle.run_audit.proofs.PlayLemmas.{text_more}
-use Rattle.run_audit.proofs.SettingLemmas.{seat_runs, some_same}
 use Rattle.run_audit.specs.Begins.{BeginsFree}
 use Rattle.run_audit.specs.ByArms.{AreSet}
 use Rattle.run_audit.specs.Coming.{ComesJudged, StopsNext}
 use Rattle.run_audit.specs.Freely.{AreProgress, GoesNext, GoesNone, GoesNot, HasTakenFreely, IsNextOfAny, IsProgressIn, IsWaiting, SawLast, StopsFree, TakesFree, TakesWanted, course_now}
-use Rattle.run_audit.specs.Judged.{IsJudged, changes_with}
 use Rattle.run_audit.specs.Played.{GoesOnWith, HasPlayedOn, PlaysPart, StopsPart, lines_from}
-use Rattle.run_audit.specs.Quiet.{runs_by_seat}
-use Rattle.run_audit.specs.Replay.{IsInSituation, IsReplayAt}
 use Rattle.run_audit.specs.declared.free.Progress.{Progress}
-use Rattle.run_audit.specs.declared.judge.Judged.{Judged}
 use Rattle.run_audit.specs.declared.lines.Rest.{Rest}
-use Rattle.run_audit.specs.declared.replay.Replay.{Replay}
-use Rattle.run_audit.specs.declared.replay.Setting.{Setting}
 use Rattle.run_audit.specs.declared.verdict.Stop.{Stop}
 use Rattle.run_audit.specs.declared.verdict.Stop.TheVariants.{At, OutOfMemory}
 use Rattle.run_audit.specs.declared.verdict.Why.TheVariants.{NotObeyed}

@@ -18,7 +18,8 @@ use Rattle.script_semantics.specs.Parts.{Plays}
 use Rattle.script_semantics.specs.Round.{round_tasks}
 use Rattle.script_semantics.specs.Settling.{Drains, IsDrainRound, Settles, cleared, coordinator, restart_tasks}
 use Rattle.script_semantics.specs.Situation.{Situation, Task, Do, after_turn}
-use Rattle.run_audit.specs.Begins.{BeginsDrain, BeginsDrainIn, BeginsDrainRound, BeginsFree, BeginsPart, BeginsRounds, BeginsSettling, BeginsThen, BeginsToLead, BeginsToPlay, BeginsToPlayByArms, BeginsTurnsByArms, BeginsTurnsFor, BeginsWalk, BeginsWalkIn, BeginsWalkOn, NoneYet, standing_tasks}
+use Rattle.run_replay.specs.Tasks.{standing_tasks}
+use Rattle.run_audit.specs.Begins.{BeginsDrain, BeginsDrainIn, BeginsDrainRound, BeginsFree, BeginsPart, BeginsRounds, BeginsSettling, BeginsThen, BeginsToLead, BeginsToPlay, BeginsToPlayByArms, BeginsTurnsByArms, BeginsTurnsFor, BeginsWalk, BeginsWalkIn, BeginsWalkOn, NoneYet}
 use Rattle.run_audit.proofs.BeginLemmas.{BeginsAsWhole, drain_begins, drain_round_begins, plain_begins, plays_begins, plays_by_arms_begins, settling_begins}
 
 -- a front begins where more does

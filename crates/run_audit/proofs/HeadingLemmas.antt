@@ -9,6 +9,7 @@ use Rattle.journal_line.proofs.UniqueLine.{same_line}
 use Rattle.journal_line.specs.Line.{IsJournalLine}
 use Rattle.journal_line.specs.Told.{told_line}
 use Rattle.script_semantics.specs.Situation.{Situation}
+use Rattle.run_replay.specs.declared.replay.Replay.{Replay}
 use Rattle.run_audit.proofs.ComingLemmas.{first_one, no_end}
 use Rattle.run_audit.specs.Headings.{ComesBehind, IsSmallHeading, PassesLine, StopsAtHeading, TellsHeading, heading_text, told_heading}
 use Rattle.run_audit.specs.Played.{ComesOf}
@@ -19,7 +20,6 @@ use Rattle.run_audit.specs.declared.heading.Heading.TheVariants.{First, Command,
 use Rattle.run_audit.specs.declared.lines.Next.{Next}
 use Rattle.run_audit.specs.declared.lines.Next.TheVariants.{Line, Bad, End}
 use Rattle.run_audit.specs.declared.lines.Rest.{Rest}
-use Rattle.run_audit.specs.declared.replay.Replay.{Replay}
 use Rattle.run_audit.specs.declared.verdict.Stop.{Stop}
 
 -- ---- what a line says

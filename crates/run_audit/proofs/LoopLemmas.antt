@@ -1,6 +1,5 @@
 -- What the loops keep that play rounds, drains and walks by the lines of a text.
-use Rattle.std.proofs.Common.{◌≡◌, ◌+◌, ◌<◌, ◌^◌, ℕ, suc, ℤ, Bool, true, false, List, [], ◌∷◌, ◌++◌, length, Result, Err, refl, sym, ap, ◌∙◌, subst, arith, ◌≤ℤ◌}
-use Rattle.std.proofs.Common.{append-nil as append_nil}
+use Rattle.std.proofs.Common.{◌≡◌, ◌+◌, ◌<◌, ◌^◌, ℕ, suc, ℤ, Bool, true, false, List, [], ◌∷◌, ◌++◌, length, Result, Err, refl, sym, ap, ◌∙◌, subst, arith, ◌≤ℤ◌, append-nil as append_nil}
 use Rattle.std.specs.Prelude.{⊤, unsigned_abs, ◌-ℤ◌}
 use Rattle.std.specs.Int.{int_min}
 use Rattle.std.proofs.lemmas.Int.{clamps, ints}
@@ -18,18 +17,18 @@ use Rattle.script_semantics.specs.Round.{round_tasks}
 use Rattle.script_semantics.specs.Settling.{AsksNothingUntil, Drains, IsDrainRound, IsLedToQuiet, IsNextMinute, IsQuiet, Settles, Walks, WalksOn, cleared, coordinator, restart_tasks}
 use Rattle.script_semantics.specs.Situation.{Do, Situation, Task}
 use Rattle.step_spec.specs.State.{State}
+use Rattle.run_replay.proofs.QuietLemmas.{quiet_runs}
+use Rattle.run_replay.specs.Quiet.{SaysWhether}
+use Rattle.run_replay.specs.Replay.{IsInSituation, IsReplayAt}
+use Rattle.run_replay.specs.declared.replay.Replay.{Replay}
 use Rattle.run_audit.proofs.BeginLemmas.{drain_begins, drain_round_begins, plain_begins, plays_begins, plays_by_arms_begins, settling_begins}
 use Rattle.run_audit.proofs.EndLemmas.{drain_ends, drain_round_ends, plain_ends, plays_by_ends, plays_ends, settling_ends}
 use Rattle.run_audit.proofs.LeadLemmas.{leads_then, minute_leads, quiet_ends, round_leads, stops_in_minute, stops_in_round, walk_ends_there}
 use Rattle.run_audit.proofs.PartLemmas.{AreAsOne, LeadsOn, comes_as, leads_by, leads_come, played_none, stops_as, then_leads, then_stops}
-use Rattle.run_audit.proofs.QuietLemmas.{quiet_runs}
 use Rattle.run_audit.proofs.StopLemmas.{stops_first}
 use Rattle.run_audit.specs.Begins.{BeginsDrain, BeginsDrainRound, BeginsRounds, BeginsSettling, BeginsThen, BeginsToLead, BeginsToPlay, BeginsToPlayByArms, BeginsWalk, BeginsWalkOn}
 use Rattle.run_audit.specs.Played.{ComesOf, HasPlayedOn, RunsInReplay, StopsIn, StopsPart}
-use Rattle.run_audit.specs.Quiet.{SaysWhether}
-use Rattle.run_audit.specs.Replay.{IsInSituation, IsReplayAt}
 use Rattle.run_audit.specs.declared.lines.Rest.{Rest}
-use Rattle.run_audit.specs.declared.replay.Replay.{Replay}
 use Rattle.run_audit.specs.declared.verdict.Stop.{Stop}
 
 -- ---- one part and then another

@@ -1,6 +1,6 @@
 -- The lines of a journal have no newline in them, where no job's name has one: so the journal of a book falls into its lines.
 use Rattle.std.proofs.Common.{◌≡◌, ℕ, suc, ◌+◌, ◌==◌, Bool, true, false, cond, List, [], ◌∷◌, ◌++◌, append-nil, length, map, Option, Some, None, refl, ap, sym, ◌∙◌, arith, codes, decimal, rules}
-use Rattle.std.specs.Prelude.{slice_get, ◌-◌, ℤ}
+use Rattle.std.specs.Prelude.{slice_get, ℤ}
 use Rattle.std.specs.List.{AllByRecursion, flat_map, range_with_len}
 use Rattle.std.proofs.lemmas.List.Elements.{All-weaker}
 use Rattle.due_set.proofs.TableLemmas.{All-slice_get}

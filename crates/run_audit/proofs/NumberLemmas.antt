@@ -1,19 +1,18 @@
 -- The numbers of a legal book's turns have 64 bits where it has few turns: a turn posts a letter to each replica at most, and leaves a late call at most.
-use Rattle.std.proofs.Common.{◌≡◌, ℕ, suc, ◌+◌, ◌*◌, ◌<◌, ◌≤◌, ◌^◌, List, [], ◌∷◌, ◌++◌, append-nil, append_assoc, length, map, Option, None, Some, ap, sym, subst, ◌∙◌, arith}
+use Rattle.std.proofs.Common.{◌≡◌, ℕ, suc, ◌+◌, ◌*◌, ◌<◌, ◌≤◌, ◌^◌, List, [], ◌∷◌, ◌++◌, append-nil, append_assoc, length, map, Option, None, Some, ap, sym, subst, arith}
 use Rattle.std.specs.List.{AllZip, flat_map, range_with_len}
 use Rattle.std.proofs.lemmas.List.{length-append, length-map}
 use Rattle.std.proofs.lemmas.List.FromFn.{length-range_with_len}
 use Rattle.due_set.specs.Table.{Table}
-use Rattle.cluster_sched.specs.Fates.{added, call, creation}
+use Rattle.cluster_sched.specs.Fates.{added, call}
 use Rattle.cluster_sched.specs.declared.fate.Fate.{Fate}
 use Rattle.cluster_sched.specs.declared.fate.Fate.TheVariants.{Done, LostBefore, LostAfter, Late}
 use Rattle.cluster_sched.specs.declared.row.SchedRow.{SchedRow}
 use Rattle.launch_machine.specs.Clerk.{first_rows}
 use Rattle.step_spec.specs.Act.{Act}
-use Rattle.step_spec.specs.Folds.{Addressed, letter_of, letters_of, sent_to}
+use Rattle.step_spec.specs.Folds.{letter_of, letters_of, sent_to}
 use Rattle.step_spec.specs.Letters.{AreLettersOf, IsSpelled}
 use Rattle.step_spec.specs.Message.{Message}
-use Rattle.step_spec.specs.Step.{Event}
 use Rattle.step_spec.specs.State.{Identity}
 use Rattle.step_spec.specs.declared.out.OutLetter.{OutLetter}
 use Rattle.agreement.specs.Transition.{identity_of}

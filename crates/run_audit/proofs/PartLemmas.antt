@@ -1,6 +1,5 @@
 -- Parts that are played one after another by the lines of a text.
-use Rattle.std.proofs.Common.{◌≡◌, ◌+◌, ◌<◌, ◌^◌, ℕ, List, [], ◌∷◌, ◌++◌, length, map, true, Result, Ok, Err, refl, sym, ap, ◌∙◌, subst, arith, append_assoc}
-use Rattle.std.proofs.Common.{append-nil as append_nil}
+use Rattle.std.proofs.Common.{◌≡◌, ◌+◌, ◌<◌, ◌^◌, ℕ, List, [], ◌∷◌, ◌++◌, length, map, true, Result, Ok, Err, refl, sym, ap, ◌∙◌, subst, arith, append_assoc, append-nil as append_nil}
 use Rattle.std.specs.List.{enumerate_from}
 use Rattle.std.specs.Prelude.{⊤}
 use Rattle.std.proofs.lemmas.List.{length-append, length-map, map-append}
@@ -21,20 +20,20 @@ use Rattle.script_semantics.specs.Commands.{Plain, set_by, tasks_for}
 use Rattle.script_semantics.specs.Parts.{Plays, Sets, Stays, Then}
 use Rattle.script_semantics.specs.Script.{IsPartOf}
 use Rattle.script_semantics.specs.Situation.{Performs, Situation, Task}
+use Rattle.run_replay.specs.Replay.{IsInSituation, IsReplayAt}
+use Rattle.run_replay.specs.Settings.{ChangesReplay, NamesMember}
+use Rattle.run_replay.specs.Tasks.{AreAsked, tasks_in}
+use Rattle.run_replay.specs.declared.replay.Replay.{Replay}
+use Rattle.run_replay.specs.declared.tasks.Task.{Task as Listed}
 use Rattle.run_audit.proofs.BeginLemmas.{BeginsAsWhole}
 use Rattle.run_audit.proofs.EndLemmas.{EndsThere}
 use Rattle.run_audit.proofs.LeadLemmas.{Leads, leads_then}
 use Rattle.run_audit.proofs.SoFarLemmas.{enumerate-append}
 use Rattle.run_audit.proofs.StopLemmas.{stops_first}
-use Rattle.run_audit.specs.Begins.{BeginsPart, BeginsThen, BeginsToPlay, BeginsToPlayByArms, BeginsTurnsByArms, BeginsTurnsFor}
+use Rattle.run_audit.specs.Begins.{BeginsPart, BeginsThen, BeginsToPlay, BeginsToPlayByArms, BeginsTurnsByArms, BeginsTurnsFor, is_plain}
 use Rattle.run_audit.specs.Played.{ComesOf, GoesOnWith, HasPlayedOn, IsNextReason, PlaysPart, StopsIn, StopsMidway, StopsPart, lines_from}
-use Rattle.run_audit.specs.Replay.{IsInSituation, IsReplayAt}
-use Rattle.run_audit.specs.Settings.{ChangesReplay, NamesMember, is_plain}
 use Rattle.run_audit.specs.Sound.{turns_of}
-use Rattle.run_audit.specs.Tasks.{AreAsked, tasks_in}
 use Rattle.run_audit.specs.declared.lines.Rest.{Rest}
-use Rattle.run_audit.specs.declared.replay.Replay.{Replay}
-use Rattle.run_audit.specs.declared.tasks.Task.{Task as Listed}
 use Rattle.run_audit.specs.declared.verdict.Stop.{Stop}
 use Rattle.run_audit.specs.declared.verdict.Stop.TheVariants.{At, OutOfMemory}
 

@@ -1,6 +1,5 @@
 -- Turns of tasks that are taken one after another by the lines of a text.
-use Rattle.std.proofs.Common.{◌≡◌, ◌+◌, ◌<◌, ◌≤◌, ◌^◌, ℕ, List, [], ◌∷◌, ◌++◌, length, map, Result, Ok, Err, take, drop, get_or, suc, refl, sym, ap, ◌∙◌, subst, arith, append_assoc, add-one}
-use Rattle.std.proofs.Common.{append-nil as append_nil}
+use Rattle.std.proofs.Common.{◌≡◌, ◌+◌, ◌<◌, ◌≤◌, ◌^◌, ℕ, List, [], ◌∷◌, ◌++◌, length, map, Result, Ok, Err, take, drop, get_or, suc, refl, sym, ap, ◌∙◌, subst, arith, append_assoc, add-one, append-nil as append_nil}
 use Rattle.std.specs.List.{enumerate_from}
 use Rattle.std.specs.Prelude.{IsErrAnd}
 use Rattle.std.proofs.Math.Seq.{drop-cons, take-suc}
@@ -17,19 +16,19 @@ use Rattle.world_law.specs.Book.{BookState, posted_as}
 use Rattle.journal_text.specs.Journal.{turn_line}
 use Rattle.script_semantics.specs.Parts.{Plays}
 use Rattle.script_semantics.specs.Situation.{AreTurnsFor, IsTurnFor, Situation, Task, after_turn, after_turns, delivered}
-use Rattle.run_audit.proofs.SettingLemmas.{posted_are}
+use Rattle.run_replay.proofs.SettingLemmas.{posted_are}
+use Rattle.run_replay.specs.Replay.{IsInSituation, IsReplayAt}
+use Rattle.run_replay.specs.Settings.{ChangesReplay}
+use Rattle.run_replay.specs.Tasks.{task_of, tasks_in}
+use Rattle.run_replay.specs.declared.replay.Replay.{Replay}
+use Rattle.run_replay.specs.declared.tasks.Task.{Task as Listed}
+use Rattle.run_replay.specs.declared.tasks.Task.TheVariants as listed
 use Rattle.run_audit.proofs.StopLemmas.{plays_stop}
 use Rattle.run_audit.specs.Begins.{BeginsToPlay}
 use Rattle.run_audit.specs.Coming.{StopsNext, StopsTask, TakesNext, TakesTask}
 use Rattle.run_audit.specs.Played.{ComesOf, GoesOnWith, HasPlayedOn, PlaysPart, StopsPart, lines_from}
-use Rattle.run_audit.specs.Replay.{IsInSituation, IsReplayAt}
-use Rattle.run_audit.specs.Settings.{ChangesReplay}
 use Rattle.run_audit.specs.Sound.{turns_of}
-use Rattle.run_audit.specs.Tasks.{task_of, tasks_in}
 use Rattle.run_audit.specs.declared.lines.Rest.{Rest}
-use Rattle.run_audit.specs.declared.replay.Replay.{Replay}
-use Rattle.run_audit.specs.declared.tasks.Task.{Task as Listed}
-use Rattle.run_audit.specs.declared.tasks.Task.TheVariants as listed
 use Rattle.run_audit.specs.declared.verdict.Stop.{Stop}
 use Rattle.run_audit.specs.declared.verdict.Stop.TheVariants.{At, OutOfMemory}
 

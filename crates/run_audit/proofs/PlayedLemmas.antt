@@ -1,15 +1,16 @@
 -- What comes of the parts of a script that is played by the lines of a text: the next part, or a line at fault.
-use Rattle.std.proofs.Common.{◌≡◌, ℕ, suc, ◌+◌, ◌<◌, ◌≤◌, ◌^◌, List, [], ◌∷◌, ◌++◌, inl, inr, length, take, Option, Some, ap, refl, sym, subst, ◌∙◌, arith, codes}
+use Rattle.std.proofs.Common.{◌≡◌, ℕ, suc, ◌+◌, ◌<◌, ◌≤◌, List, [], ◌∷◌, inl, inr, length, take, Option, Some, ap, refl, sym, subst, ◌∙◌, arith, codes}
 use Rattle.std.specs.Prelude.{slice_get}
 use Rattle.zone_minutes.specs.Window.{IsWithinLimits}
 use Rattle.due_set.specs.Table.{Table}
 use Rattle.job_table.specs.Names.{HaveWordNames}
 use Rattle.script_text.specs.declared.command.Command.{Command}
-use Rattle.history.specs.Book.{Row}
 use Rattle.history.specs.Legal.{IsLegal}
 use Rattle.script_semantics.specs.Script.{ArePartsOf, IsPartOf}
-use Rattle.script_semantics.specs.Situation.{Situation, first_situation}
+use Rattle.script_semantics.specs.Situation.{first_situation}
 use Rattle.journal_text.specs.Journal.{part_head}
+use Rattle.run_replay.specs.Replay.{IsReplayAt}
+use Rattle.run_replay.specs.declared.replay.Replay.{Replay}
 use Rattle.run_audit.proofs.ComeLemmas.{come_on, line_joined, part_stops}
 use Rattle.run_audit.proofs.FaultLemmas.{fault_there}
 use Rattle.run_audit.proofs.JournalLemmas.{lines_with}
@@ -18,11 +19,9 @@ use Rattle.run_audit.proofs.ScriptLemmas.{HasComeTo}
 use Rattle.run_audit.specs.Begins.{BeginsPart}
 use Rattle.run_audit.specs.Headings.{HasPlayedBehind, PassesLine, StopsBefore, StopsBehindHeading}
 use Rattle.run_audit.specs.Played.{IsNextReason, StopsMidway}
-use Rattle.run_audit.specs.Replay.{IsReplayAt}
 use Rattle.run_audit.specs.Sound.{BeginsPartOf}
 use Rattle.run_audit.specs.Verdict.{IsAtFault}
 use Rattle.run_audit.specs.declared.lines.Rest.{Rest}
-use Rattle.run_audit.specs.declared.replay.Replay.{Replay}
 use Rattle.run_audit.specs.declared.verdict.Stop.TheVariants.{At}
 use Rattle.run_audit.specs.declared.verdict.Why.{Why}
 

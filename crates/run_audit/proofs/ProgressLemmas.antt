@@ -31,16 +31,16 @@ use Rattle.script_semantics.specs.Arms.{IsEnough, IsTurnByArm}
 use Rattle.script_semantics.specs.Free.{Course, after_all_posted, after_posted, after_row_of, begun as begun_at, course_of, idle_cause, is_time_to_stand, is_turn_of, next_cause, next_cause_by}
 use Rattle.script_semantics.specs.Round.{clock_reading}
 use Rattle.script_semantics.specs.Situation.{Armed, Situation, Do, changes_in, letters_for}
-use Rattle.run_audit.proofs.QuietLemmas.{running_state, stopped_state}
-use Rattle.run_audit.proofs.SettingLemmas.{set_cases, some_same}
-use Rattle.run_audit.proofs.StartLemmas.{found_last}
+use Rattle.run_replay.proofs.QuietLemmas.{running_state, stopped_state}
+use Rattle.run_replay.proofs.SettingLemmas.{set_cases, some_same}
+use Rattle.run_replay.proofs.StartLemmas.{found_last}
+use Rattle.run_replay.specs.Quiet.{runs_by_seat}
+use Rattle.run_replay.specs.Replay.{IsReplayAt}
+use Rattle.run_replay.specs.declared.replay.Replay.{Replay}
+use Rattle.run_replay.specs.declared.replay.Seat.{Seat}
+use Rattle.run_replay.specs.declared.replay.Setting.{Setting}
 use Rattle.run_audit.specs.Freely.{AreProgress, IsProgressIn, IsWaiting, SawLast, course_now, has_any, leads_by, leads_in}
-use Rattle.run_audit.specs.Quiet.{runs_by_seat}
-use Rattle.run_audit.specs.Replay.{IsReplayAt}
 use Rattle.run_audit.specs.declared.free.Progress.{Progress}
-use Rattle.run_audit.specs.declared.replay.Replay.{Replay}
-use Rattle.run_audit.specs.declared.replay.Seat.{Seat}
-use Rattle.run_audit.specs.declared.replay.Setting.{Setting}
 
 -- ---- whose turn it is
 

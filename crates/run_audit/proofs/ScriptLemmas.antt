@@ -1,28 +1,24 @@
 -- A script that is played by the lines of a text, part by part: how far it has come, and what comes of a line more.
-use Rattle.std.proofs.Common.{◌≡◌, ℕ, zero, suc, ◌+◌, ◌<◌, ◌≤◌, ◌^◌, List, [], ◌∷◌, ◌++◌, append-nil, append_assoc, drop, get_or, inl, inr, length, map, take, refl, ap, sym, subst, ◌∙◌, arith, codes}
-use Rattle.std.specs.List.{enumerate_from}
+use Rattle.std.proofs.Common.{◌≡◌, ℕ, suc, ◌+◌, ◌<◌, ◌≤◌, ◌^◌, List, [], ◌∷◌, ◌++◌, append-nil, append_assoc, drop, get_or, inl, inr, length, take, refl, ap, sym, subst, ◌∙◌, arith}
 use Rattle.std.specs.Prelude.{slice_get}
 use Rattle.std.proofs.lemmas.Bool.{cases_lt}
 use Rattle.std.proofs.lemmas.List.{drop_at, get_or_append_left, get_or_at, length-append, length-map, map-append, take-append-le, take_at}
 use Rattle.cron_io.specs.Lines.{text_of_lines}
-use Rattle.cron_io.proofs.LineLemmas.{text_of_lines-append}
 use Rattle.due_set.specs.Table.{Table}
-use Rattle.job_table.specs.Names.{HaveWordNames}
 use Rattle.script_text.specs.declared.command.Command.{Command}
 use Rattle.history.specs.Book.{Row}
-use Rattle.history.specs.Legal.{IsLegal}
 use Rattle.history.specs.declared.turn.Turn.{Turn}
 use Rattle.script_semantics.specs.Script.{ArePartsOf}
 use Rattle.script_semantics.specs.Situation.{Situation, first_situation}
 use Rattle.journal_text.specs.Journal.{part_head, turn_line}
+use Rattle.run_replay.specs.Replay.{IsReplayAt}
+use Rattle.run_replay.specs.declared.replay.Replay.{Replay}
 use Rattle.run_audit.proofs.FaultLemmas.{Lack}
 use Rattle.run_audit.proofs.JournalLemmas.{in_last, lines_with}
 use Rattle.run_audit.proofs.SoFarLemmas.{part_more, turn_more}
 use Rattle.run_audit.specs.Played.{lines_from}
-use Rattle.run_audit.specs.Replay.{IsReplayAt}
 use Rattle.run_audit.specs.Sound.{BeginsPartOf, CanBegin, ObeysSoFar, lines_so_far, turns_of}
 use Rattle.run_audit.specs.declared.lines.Rest.{Rest}
-use Rattle.run_audit.specs.declared.replay.Replay.{Replay}
 
 module _ (members : ℕ) (table : Table) (script : List Command) where
   abbrev with : List Row → List ℕ → List (List ℕ)

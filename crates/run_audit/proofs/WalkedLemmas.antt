@@ -1,5 +1,5 @@
 -- What comes of the walk behind a script that is played by the lines of a text, and of the last line.
-use Rattle.std.proofs.Common.{◌≡◌, ◌==◌, ℕ, suc, ◌+◌, ◌<◌, ◌≤◌, ◌^◌, Bool, List, [], ◌∷◌, ◌++◌, append-nil, cond, eq-eqb, inl, inr, length, take, Option, None, ap, refl, sym, subst, ◌∙◌, arith, codes, decimal}
+use Rattle.std.proofs.Common.{◌≡◌, ℕ, suc, ◌+◌, ◌<◌, ◌≤◌, ◌^◌, List, [], ◌∷◌, ◌++◌, inl, inr, length, Option, None, ap, refl, sym, subst, ◌∙◌, arith, codes}
 use Rattle.std.specs.Prelude.{ℤ, ◌-ℤ◌, pos, slice_get}
 use Rattle.std.proofs.lemmas.List.{length-append, take_all}
 use Rattle.std.proofs.lemmas.Option.{slice_get_past}
@@ -15,7 +15,9 @@ use Rattle.script_semantics.specs.Settling.{Walks}
 use Rattle.script_semantics.specs.Situation.{Situation, first_situation}
 use Rattle.script_semantics.specs.Starts.{BeginAt}
 use Rattle.journal_text.specs.Journal.{part_head}
-use Rattle.run_audit.proofs.ComeLemmas.{few_then, lack_then, line_joined, none_but_head, number_then, obeys_then, parts_begin, shorter_then, text_then}
+use Rattle.run_replay.specs.Replay.{IsReplayAt}
+use Rattle.run_replay.specs.declared.replay.Replay.{Replay}
+use Rattle.run_audit.proofs.ComeLemmas.{lack_then, line_joined, none_but_head, number_then, obeys_then, parts_begin, shorter_then, text_then}
 use Rattle.run_audit.proofs.BeginLemmas.{walk_begins}
 use Rattle.run_audit.proofs.FaultLemmas.{Lack, fault_there}
 use Rattle.run_audit.proofs.JournalLemmas.{lines_with}
@@ -26,11 +28,9 @@ use Rattle.run_audit.proofs.ScriptLemmas.{HasComeTo}
 use Rattle.run_audit.specs.Begins.{BeginsWalk}
 use Rattle.run_audit.specs.Headings.{HasPlayedBehind, PassesLine, StopsBefore, StopsBehindHeading, StopsLate}
 use Rattle.run_audit.specs.Played.{IsNextReason, StopsMidway}
-use Rattle.run_audit.specs.Replay.{IsReplayAt}
 use Rattle.run_audit.specs.Sound.{BeginsPartOf, CanBegin, IsWholeJournal, ObeysSoFar}
 use Rattle.run_audit.specs.Verdict.{IsAtFault, IsJournal}
 use Rattle.run_audit.specs.declared.lines.Rest.{Rest}
-use Rattle.run_audit.specs.declared.replay.Replay.{Replay}
 use Rattle.run_audit.specs.declared.verdict.Stop.TheVariants.{At}
 use Rattle.run_audit.specs.declared.verdict.Why.{Why}
 

@@ -1,6 +1,6 @@
 -- The first turns of a part of a script: what may have come of it so far. Each relation of script_semantics between two situations has
 -- one of its first turns here, which asks for nothing that comes later. Source: this project.
-use Rattle.std.specs.Prelude.{◌≡◌, ◌⊎◌, ⊤, ℕ, zero, suc, List, [], ◌∷◌, ◌++◌, Some, ℤ, ◌<◌, true, slice_get}
+use Rattle.std.specs.Prelude.{◌≡◌, ◌⊎◌, ⊤, ℕ, Bool, false, zero, suc, List, [], ◌∷◌, ◌++◌, Some, ℤ, ◌<◌, true, slice_get}
 use Rattle.std.specs.Int.{int_min}
 use Rattle.zone_minutes.specs.declared.minute.Window.{Window}
 use Rattle.due_set.specs.Table.{Table}
@@ -13,8 +13,9 @@ use Rattle.script_semantics.specs.Commands.{Plain, tasks_for}
 use Rattle.script_semantics.specs.Free.{GoesFreely, is_turn_of}
 use Rattle.script_semantics.specs.Parts.{Plays}
 use Rattle.script_semantics.specs.Round.{round_tasks}
-use Rattle.script_semantics.specs.Settling.{Drains, IsDrainRound, IsNextMinute, IsQuiet, Settles, campaign_tasks, cleared, coordinator, restart_tasks}
+use Rattle.script_semantics.specs.Settling.{Drains, IsDrainRound, IsNextMinute, IsQuiet, Settles, cleared, coordinator, restart_tasks}
 use Rattle.script_semantics.specs.Situation.{IsTurnFor, Situation, Task, Do, after_turn}
+use Rattle.run_replay.specs.Tasks.{standing_tasks}
 
 -- ---- putting parts together
 
@@ -69,10 +70,6 @@ BeginsRounds members window at (suc more) =
     (BeginsRounds members window at more)
 
 -- ---- settling
-
--- what the coordinator does where it follows
-abbrev pub standing_tasks : (who : ℕ) → Situation → List Task
-standing_tasks who situation = campaign_tasks who (situation.standing.replicas who).term
 
 -- the first turns of a round of draining
 abbrev pub BeginsDrainRound : ℕ → Table → (who : ℕ) → (at : ℤ) → Situation → List Row → Type 0
@@ -129,6 +126,16 @@ pub record BeginsFree (members : ℕ) (window : Window) (at : ℤ) (turns : ℕ)
   pub each : (who : ℕ) → who < members → GoesFreely members window at turns who situation rows
 
 -- ---- commands
+
+-- a command that asks for a turn at most and then sets something, on disks that don't stop
+abbrev pub is_plain : Command → Bool
+is_plain (Campaign who) = false
+is_plain (Round at rounds) = false
+is_plain (Settle at) = false
+is_plain (Walk to) = false
+is_plain (Break who pass image) = false
+is_plain (Free at turns) = false
+is_plain command = true
 
 -- **The first turns of a command's part**
 abbrev pub BeginsPart : ℕ → Table → Command → Situation → List Row → Type 0

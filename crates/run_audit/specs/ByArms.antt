@@ -8,13 +8,13 @@ use Rattle.script_semantics.specs.Arms.{IsTurnByArm, is_task_of, tasks_left}
 use Rattle.paxos_base.specs.declared.durable.Delta.{Delta}
 use Rattle.save_calls.specs.Save.{calls_of_delta, is_kept}
 use Rattle.script_semantics.specs.Situation.{Armed, Situation, Task}
+use Rattle.run_replay.specs.Replay.{IsReplayAt, IsSettingOf}
+use Rattle.run_replay.specs.Tasks.{tasks_in}
+use Rattle.run_replay.specs.declared.replay.Replay.{Replay}
+use Rattle.run_replay.specs.declared.replay.Setting.{Setting}
+use Rattle.run_replay.specs.declared.tasks.Task.{Task as Listed}
 use Rattle.run_audit.specs.Coming.{StopsNext, TakesNext}
-use Rattle.run_audit.specs.Replay.{IsReplayAt, IsSettingOf}
-use Rattle.run_audit.specs.Tasks.{tasks_in}
 use Rattle.run_audit.specs.declared.lines.Rest.{Rest}
-use Rattle.run_audit.specs.declared.replay.Replay.{Replay}
-use Rattle.run_audit.specs.declared.replay.Setting.{Setting}
-use Rattle.run_audit.specs.declared.tasks.Task.{Task as Listed}
 use Rattle.run_audit.specs.declared.verdict.Stop.{Stop}
 use Rattle.run_audit.specs.declared.verdict.Stop.TheVariants.{At, OutOfMemory}
 

@@ -7,17 +7,17 @@ use Rattle.journal_line.specs.Line.{IsJournalLine}
 use Rattle.journal_line.specs.Told.{ToldLine}
 use Rattle.journal_text.specs.Journal.{turn_line}
 use Rattle.script_semantics.specs.Situation.{IsTurnFor, Situation, Task, after_turn}
-use Rattle.run_audit.specs.Judged.{IsJudged}
+use Rattle.run_replay.specs.Judged.{IsJudged}
+use Rattle.run_replay.specs.Replay.{IsReplayAt}
+use Rattle.run_replay.specs.declared.judge.Judged.{Judged}
+use Rattle.run_replay.specs.declared.replay.Replay.{Replay}
+use Rattle.run_replay.specs.declared.replay.Setting.{Setting}
 use Rattle.run_audit.specs.Played.{GoesOnWith, IsNextReason}
 use Rattle.run_audit.specs.Reading.{IsLineFirst}
-use Rattle.run_audit.specs.Replay.{IsReplayAt}
 use Rattle.run_audit.specs.Verdict.{IsOfTurn}
-use Rattle.run_audit.specs.declared.judge.Judged.{Judged}
 use Rattle.run_audit.specs.declared.lines.Rest.{Rest}
 use Rattle.run_audit.specs.declared.play.Coming.{Coming}
 use Rattle.run_audit.specs.declared.play.Coming.TheVariants.{Turn, Refused}
-use Rattle.run_audit.specs.declared.replay.Replay.{Replay}
-use Rattle.run_audit.specs.declared.replay.Setting.{Setting}
 use Rattle.run_audit.specs.declared.verdict.Stop.{Stop}
 use Rattle.run_audit.specs.declared.verdict.Stop.TheVariants.{At, OutOfMemory}
 use Rattle.run_audit.specs.declared.verdict.Why.{Why}

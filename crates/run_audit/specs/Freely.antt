@@ -10,17 +10,17 @@ use Rattle.replica_core.specs.Replica.{ReplicaState}
 use Rattle.script_semantics.specs.Arms.{IsTurnByArm}
 use Rattle.script_semantics.specs.Free.{Course, IsFreeTurn, after_all_posted, after_posted, course_of, is_turn_of, next_cause}
 use Rattle.script_semantics.specs.Situation.{Situation, Do, changes_in}
+use Rattle.run_replay.specs.Judged.{IsJudged, changes_with}
+use Rattle.run_replay.specs.Quiet.{runs_by_seat}
+use Rattle.run_replay.specs.Replay.{IsReplayAt}
+use Rattle.run_replay.specs.declared.judge.Judged.{Judged}
+use Rattle.run_replay.specs.declared.replay.Replay.{Replay}
+use Rattle.run_replay.specs.declared.replay.Seat.{Seat}
+use Rattle.run_replay.specs.declared.replay.Setting.{Setting}
 use Rattle.run_audit.specs.ByArms.{AreSet}
 use Rattle.run_audit.specs.Coming.{StopsNext}
-use Rattle.run_audit.specs.Judged.{IsJudged, changes_with}
-use Rattle.run_audit.specs.Quiet.{runs_by_seat}
-use Rattle.run_audit.specs.Replay.{IsReplayAt}
 use Rattle.run_audit.specs.declared.free.Progress.{Progress}
-use Rattle.run_audit.specs.declared.judge.Judged.{Judged}
 use Rattle.run_audit.specs.declared.lines.Rest.{Rest}
-use Rattle.run_audit.specs.declared.replay.Replay.{Replay}
-use Rattle.run_audit.specs.declared.replay.Seat.{Seat}
-use Rattle.run_audit.specs.declared.replay.Setting.{Setting}
 use Rattle.run_audit.specs.declared.verdict.Stop.{Stop}
 use Rattle.run_audit.specs.declared.verdict.Stop.TheVariants.{At, OutOfMemory}
 

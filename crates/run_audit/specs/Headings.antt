@@ -1,19 +1,19 @@
 -- The lines of a journal that are of no turn, and how a text goes on with one. Private functions alone cite it. Source: journal_text.
-use Rattle.std.specs.Prelude.{◌≡◌, ◌⊎◌, ⊤, ℕ, ◌+◌, ◌<◌, ◌^◌, List, [], ◌∷◌, ◌++◌, length, codes, decimal, Result, Ok, Err}
+use Rattle.std.specs.Prelude.{◌≡◌, ◌⊎◌, ⊤, ℕ, ◌+◌, ◌<◌, ◌^◌, List, [], ◌++◌, length, codes, decimal, Result, Ok, Err}
 use Rattle.due_set.specs.Table.{Table}
 use Rattle.history.specs.Book.{Row}
 use Rattle.journal_line.specs.Told.{ToldLine, HeadLine, CommandLine, WalkLine, EndLine, told_line}
 use Rattle.journal_line.specs.declared.line.Count.TheVariants.{Number}
 use Rattle.script_semantics.specs.Situation.{Situation}
+use Rattle.run_replay.specs.declared.replay.Replay.{Replay}
 use Rattle.run_audit.specs.Coming.{GoesNoFurther}
 use Rattle.run_audit.specs.Played.{HasPlayedOn, StopsPart}
 use Rattle.run_audit.specs.Reading.{IsLineFirst}
 use Rattle.run_audit.specs.declared.heading.Heading.{Heading}
 use Rattle.run_audit.specs.declared.heading.Heading.TheVariants.{First, Command, Walk, Last}
 use Rattle.run_audit.specs.declared.lines.Next.{Next}
-use Rattle.run_audit.specs.declared.lines.Next.TheVariants.{Line, Bad, End}
+use Rattle.run_audit.specs.declared.lines.Next.TheVariants.{Line}
 use Rattle.run_audit.specs.declared.lines.Rest.{Rest}
-use Rattle.run_audit.specs.declared.replay.Replay.{Replay}
 use Rattle.run_audit.specs.declared.verdict.Stop.{Stop}
 use Rattle.run_audit.specs.declared.verdict.Stop.TheVariants.{At, OutOfMemory}
 use Rattle.run_audit.specs.declared.verdict.Why.{Why}

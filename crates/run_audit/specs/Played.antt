@@ -11,14 +11,14 @@ use Rattle.history.specs.Legal.{IsLegal, MayFollow}
 use Rattle.script_semantics.specs.Situation.{Situation}
 use Rattle.journal_text.proofs.Twins.{AreTwins}
 use Rattle.journal_text.specs.Journal.{turn_line}
-use Rattle.run_audit.specs.Quiet.{runs_by_seat}
-use Rattle.run_audit.specs.Replay.{IsReplayAt}
+use Rattle.run_replay.specs.Quiet.{runs_by_seat}
+use Rattle.run_replay.specs.Replay.{IsReplayAt}
+use Rattle.run_replay.specs.declared.replay.Replay.{Replay}
+use Rattle.run_replay.specs.declared.replay.Seat.{Seat}
 use Rattle.run_audit.specs.Sound.{turns_of}
 use Rattle.run_audit.specs.Reading.{GoesOnBadly, IsLineFirst}
 use Rattle.run_audit.specs.Verdict.{IsAtFault, IsJournal, IsOfNoTurn, IsOutOfPlace}
 use Rattle.run_audit.specs.declared.lines.Rest.{Rest}
-use Rattle.run_audit.specs.declared.replay.Replay.{Replay}
-use Rattle.run_audit.specs.declared.replay.Seat.{Seat}
 use Rattle.run_audit.specs.declared.verdict.Stop.{Stop}
 use Rattle.run_audit.specs.declared.verdict.Stop.TheVariants.{At, OutOfMemory}
 use Rattle.run_audit.specs.declared.verdict.Why.{Why}

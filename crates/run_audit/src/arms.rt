@@ -8,22 +8,20 @@ ghost use Rattle.save_calls.specs.Save.{calls_before, is_byte_after, is_kept};
 ghost use Rattle.journal_text.specs.Line.{HasUnblankNames};
 ghost use Rattle.script_semantics.specs.Arms.{IsEnough, IsTurnByArm, PlaysByArms, is_task_of};
 ghost use Rattle.script_semantics.specs.Situation.{IsTurnFor, Situation, changes_in};
+ghost use Rattle.run_replay.specs.Replay.{IsInSituation, armed_of};
+ghost use Rattle.run_replay.specs.Tasks.{task_of, tasks_in};
 ghost use Rattle.run_audit.specs.Begins.{BeginsToPlayByArms};
 ghost use Rattle.run_audit.specs.ByArms.{AreSet, HasStoppedWithin, StopsBy, StopsByArm, TakesByArm, tasks_backwards, tasks_without};
 ghost use Rattle.run_audit.specs.Played.{ComesOf};
-ghost use Rattle.run_audit.specs.Replay.{IsInSituation, armed_of};
-ghost use Rattle.run_audit.specs.Tasks.{task_of, tasks_in};
 
 use crate::lines::Rest;
-use crate::play::{Coming, is_stop_within};
-use crate::replay::{Arm, Replay, Setting};
-use crate::take::calls_to_save;
-use crate::tasks::Task;
+use crate::play::{Coming, is_stop_within, is_turn_for, judge_next};
 use crate::verdict::{Stop, Why};
 use cron_io::OutOfMemory;
 use due_set::JobTable;
 use history::{Cause, Turn};
 use paxos_base::Delta;
+use run_replay::{Arm, Replay, Setting, Task, calls_to_save};
 use std::alloc::Global;
 
 // The calls of a save before those that make its change hold.
@@ -166,117 +164,120 @@ fn backwards(alloc: Global, tasks: &[Task]) -> Result<Vec<Task>, OutOfMemory>
     Ok(left)
 }
 
-impl Replay {
-    // Whether a turn is a replica's step for a cause, whose change its disk saves.
-    fn is_saved_step(&self, task: Task, turn: Turn, change: &Option<Delta>, who: u8) -> bool
-        requires member { IfSome (turn_of turn) (λ who. who < length self.now.settings.items) }
-        requires mine { turn_of turn ≡ Some who }
-        ensures { (situation : Situation) → AreSet situation self.now.settings.items
-            → IsTrue result ↔ (IsTurnFor situation.fates (task_of task) turn × IsEnough (situation.arms who) (option_to_list change.now)) }
-    {
-        if !self.is_turn_for(task, turn) {
-            return false;
-        }
-        is_enough(self.settings[who as usize].arm, change)
+// Whether a turn is a replica's step for a cause, whose change its disk saves.
+fn is_saved_step(replay: &Replay, task: Task, turn: Turn, change: &Option<Delta>, who: u8) -> bool
+    requires member { IfSome (turn_of turn) (λ who. who < length replay.now.settings.items) }
+    requires mine { turn_of turn ≡ Some who }
+    ensures { (situation : Situation) → AreSet situation replay.now.settings.items
+        → IsTrue result ↔ (IsTurnFor situation.fates (task_of task) turn × IsEnough (situation.arms who) (option_to_list change.now)) }
+{
+    if !is_turn_for(replay, task, turn) {
+        return false;
     }
+    is_enough(replay.settings[who as usize].arm, change)
+}
 
-    // Whether a turn is a replica's stop within its step for a cause, as the numbers of its disk's arm have it.
-    fn is_stop_by_arm(
-        &self,
-        turn: Turn,
-        change: &Option<Delta>,
-        who: u8,
-        cause: Cause,
-        kept: bool,
-    ) -> bool
-        requires member { IfSome (turn_of turn) (λ who. who < length self.now.settings.items) }
-        ensures { (situation : Situation) → AreSet situation self.now.settings.items
-            → IsTrue result ↔ ((turn ≡ Stopped who (Some cause) kept) × StopsBy (situation.arms who) (situation.bases who) change.now kept) }
-    {
-        if !is_stop_within(turn, who, cause, kept) {
-            return false;
-        }
-        stops_by(&self.settings[who as usize], change, kept)
+// Whether a turn is a replica's stop within its step for a cause, as the numbers of its disk's arm have it.
+fn is_stop_by_arm(
+    replay: &Replay,
+    turn: Turn,
+    change: &Option<Delta>,
+    who: u8,
+    cause: Cause,
+    kept: bool,
+) -> bool
+    requires member { IfSome (turn_of turn) (λ who. who < length replay.now.settings.items) }
+    ensures { (situation : Situation) → AreSet situation replay.now.settings.items
+        → IsTrue result ↔ ((turn ≡ Stopped who (Some cause) kept) × StopsBy (situation.arms who) (situation.bases who) change.now kept) }
+{
+    if !is_stop_within(turn, who, cause, kept) {
+        return false;
     }
+    stops_by(&replay.settings[who as usize], change, kept)
+}
 
-    /// Whether a turn, whose step has this change, is that of a task on the disk of its replica.
-    pub(crate) fn is_turn_by_arm(&self, task: Task, turn: Turn, change: &Option<Delta>) -> bool
-        requires member { IfSome (turn_of turn) (λ who. who < length self.now.settings.items) }
-        ensures { (members : ℕ) (situation : Situation) (row : Row) → AreSet situation self.now.settings.items → row.turn ≡ turn
-            → changes_in members situation.standing row.turn row.event ≡ option_to_list change.now
-            → IsTrue result ↔ IsTurnByArm members situation (task_of task) row }
-    {
-        match task {
-            Task::Do { who, cause } => match turn {
-                Turn::Did { who: other, .. } => self.is_saved_step(task, turn, change, other),
-                Turn::Stopped { kept, .. } => self.is_stop_by_arm(turn, change, who, cause, kept),
-                Turn::Restarted { .. } => false,
-                Turn::Arrived { .. } => false,
-            },
-            Task::Stop { .. } => self.is_turn_for(task, turn),
-            Task::Restart { .. } => self.is_turn_for(task, turn),
-            Task::Arrive { .. } => self.is_turn_for(task, turn),
-        }
+/// Whether a turn, whose step has this change, is that of a task on the disk of its replica.
+pub(crate) fn is_turn_by_arm(
+    replay: &Replay,
+    task: Task,
+    turn: Turn,
+    change: &Option<Delta>,
+) -> bool
+    requires member { IfSome (turn_of turn) (λ who. who < length replay.now.settings.items) }
+    ensures { (members : ℕ) (situation : Situation) (row : Row) → AreSet situation replay.now.settings.items → row.turn ≡ turn
+        → changes_in members situation.standing row.turn row.event ≡ option_to_list change.now
+        → IsTrue result ↔ IsTurnByArm members situation (task_of task) row }
+{
+    match task {
+        Task::Do { who, cause } => match turn {
+            Turn::Did { who: other, .. } => is_saved_step(replay, task, turn, change, other),
+            Turn::Stopped { kept, .. } => is_stop_by_arm(replay, turn, change, who, cause, kept),
+            Turn::Restarted { .. } => false,
+            Turn::Arrived { .. } => false,
+        },
+        Task::Stop { .. } => is_turn_for(replay, task, turn),
+        Task::Restart { .. } => is_turn_for(replay, task, turn),
+        Task::Arrive { .. } => is_turn_for(replay, task, turn),
     }
+}
 
-    // Takes the turn of a task by the next line of a text, and says which replica has stopped within it, where one has.
-    fn play_task_by_arm(
-        &mut self,
-        table: &JobTable,
-        rest: &mut Rest<'_>,
-        task: Task,
-    ) -> Result<Option<u8>, Stop>
-        requires ready { IsInSituation table.now self.old }
-        requires names { HasUnblankNames table.now }
-        requires few { rest.old.number + length rest.old.text.now < 2 ^ 32 }
-        ensures takes { IfOk result (TakesByArm table.now (task_of task) self.old self.new rest.old rest.new) }
-        ensures stops { IfErr result (StopsByArm table.now (task_of task) self.old rest.old) }
-        ensures few { rest.new.number + length rest.new.text.now < 2 ^ 32 }
-        ensures members { OnOk result (self.new.book.members ≡ self.old.book.members) }
-    {
-        let line = rest.number;
-        let next = rest.read();
-        match self.judge_next(table, next)? {
-            Coming::Refused(why) => Err(Stop::At { line, why }),
-            Coming::Turn(judged) => {
-                if !self.is_turn_by_arm(task, judged.turn, judged.change()) {
-                    return Err(Stop::At {
-                        line,
-                        why: Why::NotObeyed,
-                    });
-                }
-                let stopped = stopped_in(judged.turn);
-                self.take(table, judged);
-                Ok(stopped)
+// Takes the turn of a task by the next line of a text, and says which replica has stopped within it, where one has.
+fn play_task_by_arm(
+    replay: &mut Replay,
+    table: &JobTable,
+    rest: &mut Rest<'_>,
+    task: Task,
+) -> Result<Option<u8>, Stop>
+    requires ready { IsInSituation table.now replay.old }
+    requires names { HasUnblankNames table.now }
+    requires few { rest.old.number + length rest.old.text.now < 2 ^ 32 }
+    ensures takes { IfOk result (TakesByArm table.now (task_of task) replay.old replay.new rest.old rest.new) }
+    ensures stops { IfErr result (StopsByArm table.now (task_of task) replay.old rest.old) }
+    ensures few { rest.new.number + length rest.new.text.now < 2 ^ 32 }
+    ensures members { OnOk result (replay.new.book.members ≡ replay.old.book.members) }
+{
+    let line = rest.number;
+    let next = rest.read();
+    match judge_next(replay, table, next)? {
+        Coming::Refused(why) => Err(Stop::At { line, why }),
+        Coming::Turn(judged) => {
+            if !is_turn_by_arm(replay, task, judged.turn, judged.change()) {
+                return Err(Stop::At {
+                    line,
+                    why: Why::NotObeyed,
+                });
             }
+            let stopped = stopped_in(judged.turn);
+            replay.take(table, judged);
+            Ok(stopped)
         }
     }
+}
 
-    /// Takes the turns of tasks by the lines of a text, one after another, but for those of a replica that has stopped within one. Their
-    /// letters join the mails behind them.
-    ///
-    /// # Errors
-    ///
-    /// The first line that isn't that of the next task's turn, and want of memory.
-    pub(crate) fn play_by_arms(
-        &mut self,
-        table: &JobTable,
-        rest: &mut Rest<'_>,
-        tasks: &[Task],
-    ) -> Result<(), Stop>
-        requires ready { IsInSituation table.now self.old }
-        requires names { HasUnblankNames table.now }
-        requires few { rest.old.number + length rest.old.text.now < 2 ^ 32 }
-        ensures { ComesOf table.now (BeginsToPlayByArms self.old.book.members (λ situation. tasks_in tasks.now))
-            (PlaysByArms self.old.book.members (λ situation. tasks_in tasks.now)) self.old rest.old self.new rest.new result }
-    {
-        let first = self.book.letters().len() as u64;
-        let mut left = backwards(self.alloc, tasks)?;
-        'tasks: while let Some(task) = left.pop() {
-            let stopped = self.play_task_by_arm(table, rest, task)?;
-            leave_out_stopped(&mut left, stopped);
-        }
-        self.deliver(first)?;
-        Ok(())
+/// Takes the turns of tasks by the lines of a text, one after another, but for those of a replica that has stopped within one. Their
+/// letters join the mails behind them.
+///
+/// # Errors
+///
+/// The first line that isn't that of the next task's turn, and want of memory.
+pub(crate) fn play_by_arms(
+    replay: &mut Replay,
+    table: &JobTable,
+    rest: &mut Rest<'_>,
+    tasks: &[Task],
+) -> Result<(), Stop>
+    requires ready { IsInSituation table.now replay.old }
+    requires names { HasUnblankNames table.now }
+    requires few { rest.old.number + length rest.old.text.now < 2 ^ 32 }
+    ensures { ComesOf table.now (BeginsToPlayByArms replay.old.book.members (λ situation. tasks_in tasks.now))
+        (PlaysByArms replay.old.book.members (λ situation. tasks_in tasks.now)) replay.old rest.old replay.new rest.new result }
+{
+    let first = replay.book.letters().len() as u64;
+    let mut left = backwards(replay.alloc, tasks)?;
+    'tasks: while let Some(task) = left.pop() {
+        let stopped = play_task_by_arm(replay, table, rest, task)?;
+        leave_out_stopped(&mut left, stopped);
     }
+    replay.deliver(first)?;
+    Ok(())
 }

@@ -8,22 +8,21 @@ ghost use Rattle.history.specs.Book.{Row, turn_of};
 ghost use Rattle.journal_text.specs.Line.{HasUnblankNames};
 ghost use Rattle.script_semantics.specs.Free.{IsFreePart, idle_cause, is_time_to_stand, next_cause};
 ghost use Rattle.script_semantics.specs.Situation.{Situation};
+ghost use Rattle.run_replay.specs.Replay.{IsInSituation, IsReplayAt};
+ghost use Rattle.run_replay.specs.Taken.{WasJudged};
 ghost use Rattle.run_audit.specs.Begins.{BeginsFree};
 ghost use Rattle.run_audit.specs.Freely.{AreProgress, GoesNext, GoesNone, SawLast, HasTakenFreely, IsProgressIn, IsWaiting, StopsFree, TakesFree, course_now, leads_in};
 ghost use Rattle.run_audit.specs.Played.{ComesOf};
-ghost use Rattle.run_audit.specs.Replay.{IsInSituation, IsReplayAt};
-ghost use Rattle.run_audit.specs.Taken.{WasJudged};
 ghost use Rattle.run_audit.specs.declared.free.Progress.{Progress as Counted};
 
-use crate::judge::Judged;
+use crate::arms::is_turn_by_arm;
 use crate::lines::Rest;
-use crate::play::Coming;
-use crate::replay::{Replay, Seat, Setting};
-use crate::tasks::{Task, reading_of};
+use crate::play::{Coming, judge_next};
 use crate::verdict::{Stop, Why};
 use cron_io::OutOfMemory;
 use due_set::JobTable;
 use history::{Cause, Turn};
+use run_replay::{Judged, Replay, Seat, Setting, Task, reading_of};
 use term_core::Term;
 use zone_minutes::{Minute, Window};
 
@@ -119,203 +118,205 @@ fn cause_of_next(
     }
 }
 
-impl Seat {
-    // Whether the replica leads. One that is stopped doesn't.
-    fn leads(&self) -> bool
-        ensures { result ≡ leads_in self.now }
-    {
-        match &self.replica {
-            None => false,
-            Some(replica) => is_lead(replica.term()),
-        }
+// Whether the replica leads. One that is stopped doesn't.
+fn leads(seat: &Seat) -> bool
+    ensures { result ≡ leads_in seat.now }
+{
+    match &seat.replica {
+        None => false,
+        Some(replica) => is_lead(replica.term()),
     }
 }
 
-impl Replay {
-    // What a replica sees now that has had so many turns.
-    fn progress_now(&self, who: u8, taken: u32) -> Progress
-        requires seat { who < length self.now.seats.items }
-        requires setting { who < length self.now.settings.items }
-        ensures { (table : Table) (rows : List Row) (situation : Situation) → IsReplayAt table rows self.now situation
-            → IsProgressIn (course_now taken situation) who result }
-    {
-        let waits = self.settings[who as usize].mail.is_empty();
-        let leads = self.seats[who as usize].leads();
-        Progress {
-            taken,
-            has_letter: !waits,
-            leads,
+// What a replica sees now that has had so many turns.
+fn progress_now(replay: &Replay, who: u8, taken: u32) -> Progress
+    requires seat { who < length replay.now.seats.items }
+    requires setting { who < length replay.now.settings.items }
+    ensures { (table : Table) (rows : List Row) (situation : Situation) → IsReplayAt table rows replay.now situation
+        → IsProgressIn (course_now taken situation) who result }
+{
+    let waits = replay.settings[who as usize].mail.is_empty();
+    let leads = leads(&replay.seats[who as usize]);
+    Progress {
+        taken,
+        has_letter: !waits,
+        leads,
+    }
+}
+
+// What all see before any turn of a part.
+fn first_progress(replay: &Replay) -> Result<Vec<Progress>, OutOfMemory>
+    requires ready { (table : Table) × IsInSituation table replay.now }
+    ensures { IfOk result (λ list. (table : Table) (turns : ℕ) (rows : List Row) (situation : Situation) → IsReplayAt table rows replay.now situation
+        → AreProgress replay.now.book.members turns situation [] list.items) }
+{
+    let mut list: Vec<Progress> = Vec::new(replay.alloc);
+    'members: for who in 0..replay.seats.len() as u8 {
+        list.push(progress_now(replay, who, 0))?;
+    }
+    Ok(list)
+}
+
+// Whether a replica of the replay runs and has a turn left.
+fn is_waiting(replay: &Replay, list: &[Progress], turns: u32, who: u8) -> bool
+    requires seat { who < length replay.now.seats.items }
+    requires listed { who < length list.now }
+    ensures { IsTrue result ↔ IsWaiting turns replay.now list.now who }
+{
+    if !replay.seats[who as usize].runs() {
+        return false;
+    }
+    let progress = progress_of(list, who);
+    if progress.taken >= turns {
+        return false;
+    }
+    true
+}
+
+// A replica that runs and has a turn left.
+fn next_waiting(replay: &Replay, list: &[Progress], turns: u32) -> Option<u8>
+    requires ready { (table : Table) × IsInSituation table replay.now }
+    requires count { length list.now ≡ replay.now.book.members }
+    ensures some { IfSome result (λ who. (who < replay.now.book.members) × IsWaiting turns replay.now list.now who) }
+    ensures none { IfNone result ((who : ℕ) → IsWaiting turns replay.now list.now who → ⊥) }
+{
+    'members: for who in 0..replay.seats.len() as u8 {
+        if is_waiting(replay, list, turns, who) {
+            return Some(who);
         }
     }
+    None
+}
 
-    // What all see before any turn of a part.
-    fn first_progress(&self) -> Result<Vec<Progress>, OutOfMemory>
-        requires ready { (table : Table) × IsInSituation table self.now }
-        ensures { IfOk result (λ list. (table : Table) (turns : ℕ) (rows : List Row) (situation : Situation) → IsReplayAt table rows self.now situation
-            → AreProgress self.now.book.members turns situation [] list.items) }
-    {
-        let mut list: Vec<Progress> = Vec::new(self.alloc);
-        'members: for who in 0..self.seats.len() as u8 {
-            list.push(self.progress_now(who, 0))?;
-        }
-        Ok(list)
+// Whose next turn a turn is that was judged, where it is some replica's that has one left.
+fn free_member(
+    replay: &Replay,
+    window: Window,
+    at: Minute,
+    turns: u32,
+    list: &[Progress],
+    judged: &Judged,
+) -> Option<u8>
+    requires limits { IsWithinLimits window }
+    requires inside { IsInWindow window at.0 }
+    requires member { IfSome (turn_of judged.now.turn) (λ who. who < length replay.now.settings.items) }
+    requires count { length list.now ≡ length replay.now.settings.items }
+    ensures some { IfSome result (GoesNext window at.0 turns replay.now list.now judged.now) }
+    ensures none { IfNone result (GoesNone window at.0 turns replay.now list.now judged.now) }
+{
+    let who = match member_in(judged.turn) {
+        Some(who) => who,
+        None => return None,
+    };
+    let progress = progress_of(list, who);
+    if progress.taken >= turns {
+        return None;
     }
-
-    // Whether a replica of the replay runs and has a turn left.
-    fn is_waiting(&self, list: &[Progress], turns: u32, who: u8) -> bool
-        requires seat { who < length self.now.seats.items }
-        requires listed { who < length list.now }
-        ensures { IsTrue result ↔ IsWaiting turns self.now list.now who }
-    {
-        if !self.seats[who as usize].runs() {
-            return false;
-        }
-        let progress = progress_of(list, who);
-        if progress.taken >= turns {
-            return false;
-        }
-        true
+    let cause = cause_of_next(&replay.settings[who as usize], progress, window, at, who);
+    if !is_turn_by_arm(
+        replay,
+        Task::Do { who, cause },
+        judged.turn,
+        judged.change(),
+    ) {
+        return None;
     }
+    Some(who)
+}
 
-    // A replica that runs and has a turn left.
-    fn next_waiting(&self, list: &[Progress], turns: u32) -> Option<u8>
-        requires ready { (table : Table) × IsInSituation table self.now }
-        requires count { length list.now ≡ self.now.book.members }
-        ensures some { IfSome result (λ who. (who < self.now.book.members) × IsWaiting turns self.now list.now who) }
-        ensures none { IfNone result ((who : ℕ) → IsWaiting turns self.now list.now who → ⊥) }
-    {
-        'members: for who in 0..self.seats.len() as u8 {
-            if self.is_waiting(list, turns, who) {
-                return Some(who);
+// Takes a turn of a replica that was judged, and its letters join the mails at once.
+fn take_freely(
+    replay: &mut Replay,
+    table: &JobTable,
+    judged: Judged,
+    list: &mut Vec<Progress>,
+    who: u8,
+) -> Result<(), OutOfMemory>
+    requires judged { WasJudged table.now replay.old judged }
+    requires listed { who < length list.old.items }
+    requires seat { who < replay.old.book.members }
+    requires few { (progress : Counted) → slice_get list.old.items who ≡ Some progress → progress.taken + 1 < 2 ^ 32 }
+    ensures takes { OnOk result (HasTakenFreely table.now judged who replay.old list.old.items replay.new list.new.items) }
+    ensures members { OnOk result (replay.new.book.members ≡ replay.old.book.members) }
+{
+    let first = replay.book.letters().len() as u64;
+    let taken = list[who as usize].taken + 1;
+    replay.take(table, judged);
+    replay.deliver(first)?;
+    list[who as usize] = progress_now(replay, who, taken);
+    Ok(())
+}
+
+// Takes the next turn of some replica that has one left by the next line of a text.
+fn play_free_turn(
+    replay: &mut Replay,
+    table: &JobTable,
+    rest: &mut Rest<'_>,
+    at: Minute,
+    turns: u32,
+    list: &mut Vec<Progress>,
+) -> Result<(), Stop>
+    requires ready { IsInSituation table.now replay.old }
+    requires names { HasUnblankNames table.now }
+    requires few { rest.old.number + length rest.old.text.now < 2 ^ 32 }
+    requires inside { IsInWindow table.now.window at.0 }
+    requires count { length list.old.items ≡ replay.old.book.members }
+    ensures takes { OnOk result (TakesFree table.now at.0 turns replay.old list.old.items replay.new list.new.items rest.old rest.new) }
+    ensures stops { IfErr result (StopsFree table.now at.0 turns replay.old list.old.items rest.old) }
+    ensures few { rest.new.number + length rest.new.text.now < 2 ^ 32 }
+    ensures members { OnOk result (replay.new.book.members ≡ replay.old.book.members) }
+    ensures count { OnOk result (length list.new.items ≡ replay.old.book.members) }
+{
+    let line = rest.number;
+    let next = rest.read();
+    match judge_next(replay, table, next)? {
+        Coming::Refused(why) => Err(Stop::At { line, why }),
+        Coming::Turn(judged) => match free_member(
+            replay,
+            table.window(),
+            at,
+            turns,
+            list,
+            &judged,
+        ) {
+            None => Err(Stop::At {
+                line,
+                why: Why::NotObeyed,
+            }),
+            Some(who) => {
+                take_freely(replay, table, judged, list, who)?;
+                Ok(())
             }
-        }
-        None
+        },
     }
+}
 
-    // Whose next turn a turn is that was judged, where it is some replica's that has one left.
-    fn free_member(
-        &self,
-        window: Window,
-        at: Minute,
-        turns: u32,
-        list: &[Progress],
-        judged: &Judged,
-    ) -> Option<u8>
-        requires limits { IsWithinLimits window }
-        requires inside { IsInWindow window at.0 }
-        requires member { IfSome (turn_of judged.now.turn) (λ who. who < length self.now.settings.items) }
-        requires count { length list.now ≡ length self.now.settings.items }
-        ensures some { IfSome result (GoesNext window at.0 turns self.now list.now judged.now) }
-        ensures none { IfNone result (GoesNone window at.0 turns self.now list.now judged.now) }
-    {
-        let who = match member_in(judged.turn) {
-            Some(who) => who,
-            None => return None,
-        };
-        let progress = progress_of(list, who);
-        if progress.taken >= turns {
-            return None;
-        }
-        let cause = cause_of_next(&self.settings[who as usize], progress, window, at, who);
-        if !self.is_turn_by_arm(Task::Do { who, cause }, judged.turn, judged.change()) {
-            return None;
-        }
-        Some(who)
-    }
-
-    // Takes a turn of a replica that was judged, and its letters join the mails at once.
-    fn take_freely(
-        &mut self,
-        table: &JobTable,
-        judged: Judged,
-        list: &mut Vec<Progress>,
-        who: u8,
-    ) -> Result<(), OutOfMemory>
-        requires judged { WasJudged table.now self.old judged }
-        requires listed { who < length list.old.items }
-        requires seat { who < self.old.book.members }
-        requires few { (progress : Counted) → slice_get list.old.items who ≡ Some progress → progress.taken + 1 < 2 ^ 32 }
-        ensures takes { OnOk result (HasTakenFreely table.now judged who self.old list.old.items self.new list.new.items) }
-        ensures members { OnOk result (self.new.book.members ≡ self.old.book.members) }
-    {
-        let first = self.book.letters().len() as u64;
-        let taken = list[who as usize].taken + 1;
-        self.take(table, judged);
-        self.deliver(first)?;
-        list[who as usize] = self.progress_now(who, taken);
-        Ok(())
-    }
-
-    // Takes the next turn of some replica that has one left by the next line of a text.
-    fn play_free_turn(
-        &mut self,
-        table: &JobTable,
-        rest: &mut Rest<'_>,
-        at: Minute,
-        turns: u32,
-        list: &mut Vec<Progress>,
-    ) -> Result<(), Stop>
-        requires ready { IsInSituation table.now self.old }
-        requires names { HasUnblankNames table.now }
-        requires few { rest.old.number + length rest.old.text.now < 2 ^ 32 }
-        requires inside { IsInWindow table.now.window at.0 }
-        requires count { length list.old.items ≡ self.old.book.members }
-        ensures takes { OnOk result (TakesFree table.now at.0 turns self.old list.old.items self.new list.new.items rest.old rest.new) }
-        ensures stops { IfErr result (StopsFree table.now at.0 turns self.old list.old.items rest.old) }
-        ensures few { rest.new.number + length rest.new.text.now < 2 ^ 32 }
-        ensures members { OnOk result (self.new.book.members ≡ self.old.book.members) }
-        ensures count { OnOk result (length list.new.items ≡ self.old.book.members) }
-    {
-        let line = rest.number;
-        let next = rest.read();
-        match self.judge_next(table, next)? {
-            Coming::Refused(why) => Err(Stop::At { line, why }),
-            Coming::Turn(judged) => match self.free_member(
-                table.window(),
-                at,
-                turns,
-                list,
-                &judged,
-            ) {
-                None => Err(Stop::At {
-                    line,
-                    why: Why::NotObeyed,
-                }),
-                Some(who) => {
-                    self.take_freely(table, judged, list, who)?;
-                    Ok(())
-                }
-            },
+/// Takes the turns of all replicas that run, so many of each, in the order of the lines of a text.
+///
+/// # Errors
+///
+/// The first line that isn't that of the next turn of a replica that has one left, and want of memory.
+pub(crate) fn play_free(
+    replay: &mut Replay,
+    table: &JobTable,
+    rest: &mut Rest<'_>,
+    at: Minute,
+    turns: u32,
+) -> Result<(), Stop>
+    requires ready { IsInSituation table.now replay.old }
+    requires names { HasUnblankNames table.now }
+    requires few { rest.old.number + length rest.old.text.now < 2 ^ 32 }
+    requires inside { IsInWindow table.now.window at.0 }
+    ensures { ComesOf table.now (BeginsFree replay.old.book.members table.now.window at.0 turns)
+        (IsFreePart replay.old.book.members table.now.window at.0 turns) replay.old rest.old replay.new rest.new result }
+{
+    let mut list = first_progress(replay)?;
+    'turns: for _turn in 0..u64::MAX {
+        match next_waiting(replay, &list, turns) {
+            Some(_) => play_free_turn(replay, table, rest, at, turns, &mut list)?,
+            None => return Ok(()),
         }
     }
-
-    /// Takes the turns of all replicas that run, so many of each, in the order of the lines of a text.
-    ///
-    /// # Errors
-    ///
-    /// The first line that isn't that of the next turn of a replica that has one left, and want of memory.
-    pub(crate) fn play_free(
-        &mut self,
-        table: &JobTable,
-        rest: &mut Rest<'_>,
-        at: Minute,
-        turns: u32,
-    ) -> Result<(), Stop>
-        requires ready { IsInSituation table.now self.old }
-        requires names { HasUnblankNames table.now }
-        requires few { rest.old.number + length rest.old.text.now < 2 ^ 32 }
-        requires inside { IsInWindow table.now.window at.0 }
-        ensures { ComesOf table.now (BeginsFree self.old.book.members table.now.window at.0 turns)
-            (IsFreePart self.old.book.members table.now.window at.0 turns) self.old rest.old self.new rest.new result }
-    {
-        let mut list = self.first_progress()?;
-        'turns: for _turn in 0..u64::MAX {
-            match self.next_waiting(&list, turns) {
-                Some(_) => self.play_free_turn(table, rest, at, turns, &mut list)?,
-                None => return Ok(()),
-            }
-        }
-        // No text has the lines of so many turns.
-        Err(Stop::OutOfMemory)
-    }
+    // No text has the lines of so many turns.
+    Err(Stop::OutOfMemory)
 }

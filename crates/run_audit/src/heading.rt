@@ -2,15 +2,16 @@
 ghost use Rattle.std.specs.Prelude.{◌≡◌, ◌+◌, ◌<◌, ◌^◌, ◌↔◌, [], IfErr, IfNone, IfSome, IsTrue, OnOk, length};
 ghost use Rattle.journal_line.specs.Told.{told_line};
 ghost use Rattle.journal_text.specs.Line.{HasUnblankNames};
+ghost use Rattle.run_replay.specs.Replay.{IsInSituation};
 ghost use Rattle.run_audit.specs.Headings.{IsSmallHeading, PassesLine, StopsAtEnding, StopsAtHeading, TellsHeading, heading_text, told_heading};
-ghost use Rattle.run_audit.specs.Replay.{IsInSituation};
 ghost use Rattle.run_audit.specs.declared.heading.Heading.{Heading as Line};
 
 use crate::lines::{Next, Rest};
-use crate::replay::Replay;
+use crate::play::refusal;
 use crate::verdict::Stop;
 use due_set::JobTable;
 use journal_line::{Count, JournalLine};
+use run_replay::Replay;
 
 /// A line of a journal that is of no turn.
 #[derive(Clone, Copy, Debug, PartialEq, Eq)]
@@ -82,54 +83,56 @@ fn is_heading_next(next: Next<'_>, heading: Heading) -> bool
     }
 }
 
-impl Replay {
-    /// Reads a line that is of no turn, as the next one of a text.
-    ///
-    /// # Errors
-    ///
-    /// Another line, and want of memory.
-    pub(crate) fn pass_heading(
-        &mut self,
-        table: &JobTable,
-        rest: &mut Rest<'_>,
-        heading: Heading,
-    ) -> Result<(), Stop>
-        requires ready { IsInSituation table.now self.old }
-        requires names { HasUnblankNames table.now }
-        requires few { rest.old.number + length rest.old.text.now < 2 ^ 32 }
-        ensures passes { OnOk result (PassesLine (heading_text heading) rest.old rest.new) }
-        ensures stays { OnOk result (self.new ≡ self.old) }
-        ensures stops { IfErr result (StopsAtHeading table.now (heading_text heading) self.old rest.old) }
-    {
-        count_heading(heading);
-        let line = rest.number;
-        let next = rest.read();
-        if is_heading_next(next, heading) {
-            return Ok(());
-        }
-        let why = self.refusal(table, next)?;
-        Err(Stop::At { line, why })
+/// Reads a line that is of no turn, as the next one of a text.
+///
+/// # Errors
+///
+/// Another line, and want of memory.
+pub(crate) fn pass_heading(
+    replay: &mut Replay,
+    table: &JobTable,
+    rest: &mut Rest<'_>,
+    heading: Heading,
+) -> Result<(), Stop>
+    requires ready { IsInSituation table.now replay.old }
+    requires names { HasUnblankNames table.now }
+    requires few { rest.old.number + length rest.old.text.now < 2 ^ 32 }
+    ensures passes { OnOk result (PassesLine (heading_text heading) rest.old rest.new) }
+    ensures stays { OnOk result (replay.new ≡ replay.old) }
+    ensures stops { IfErr result (StopsAtHeading table.now (heading_text heading) replay.old rest.old) }
+{
+    count_heading(heading);
+    let line = rest.number;
+    let next = rest.read();
+    if is_heading_next(next, heading) {
+        return Ok(());
     }
+    let why = refusal(replay, table, next)?;
+    Err(Stop::At { line, why })
+}
 
-    /// Reads the end of a text.
-    ///
-    /// # Errors
-    ///
-    /// A line more, and want of memory.
-    pub(crate) fn pass_end(&mut self, table: &JobTable, rest: &mut Rest<'_>) -> Result<(), Stop>
-        requires ready { IsInSituation table.now self.old }
-        requires names { HasUnblankNames table.now }
-        requires few { rest.old.number + length rest.old.text.now < 2 ^ 32 }
-        ensures ends { OnOk result (rest.old.text.now ≡ []) }
-        ensures stays { OnOk result (self.new ≡ self.old) }
-        ensures stops { IfErr result (StopsAtEnding table.now self.old rest.old) }
-    {
-        if rest.text.is_empty() {
-            return Ok(());
-        }
-        let line = rest.number;
-        let next = rest.read();
-        let why = self.refusal(table, next)?;
-        Err(Stop::At { line, why })
+/// Reads the end of a text.
+///
+/// # Errors
+///
+/// A line more, and want of memory.
+pub(crate) fn pass_end(
+    replay: &mut Replay,
+    table: &JobTable,
+    rest: &mut Rest<'_>,
+) -> Result<(), Stop>
+    requires ready { IsInSituation table.now replay.old }
+    requires names { HasUnblankNames table.now }
+    requires few { rest.old.number + length rest.old.text.now < 2 ^ 32 }
+    ensures ends { OnOk result (rest.old.text.now ≡ []) }
+    ensures stays { OnOk result (replay.new ≡ replay.old) }
+    ensures stops { IfErr result (StopsAtEnding table.now replay.old rest.old) }
+{
+    if rest.text.is_empty() {
+        return Ok(());
     }
+    let line = rest.number;
+    let next = rest.read();
+    let why = refusal(replay, table, next)?;
+    Err(Stop::At { line, why })
 }

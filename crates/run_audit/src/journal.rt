@@ -5,11 +5,11 @@ ghost use Rattle.run_text.specs.Reading.{IsReadRun};
 ghost use Rattle.run_text.specs.Run.{run_of};
 ghost use Rattle.run_audit.specs.Audit.{IsVerdict};
 
-use crate::replay::Replay;
 use crate::script::play_script;
 use crate::verdict::{Stop, Why};
 use cron_io::OutOfMemory;
 use due_set::JobTable;
+use run_replay::Replay;
 use run_text::RunFile;
 use std::alloc::Global;
 use world_law::Book;

@@ -7,15 +7,18 @@ ghost use Rattle.script_semantics.specs.Arms.{AreRoundsByArms, PlaysByArms};
 ghost use Rattle.script_semantics.specs.Commands.{Plain, set_by, tasks_for};
 ghost use Rattle.script_semantics.specs.Round.{round_tasks};
 ghost use Rattle.script_semantics.specs.Script.{IsPartOf};
-ghost use Rattle.run_audit.specs.Begins.{BeginsPart, BeginsRounds, BeginsToPlay, BeginsToPlayByArms};
+ghost use Rattle.run_replay.specs.Replay.{IsInSituation};
+ghost use Rattle.run_audit.specs.Begins.{BeginsPart, BeginsRounds, BeginsToPlay, BeginsToPlayByArms, is_plain};
 ghost use Rattle.run_audit.specs.Played.{ComesOf};
-ghost use Rattle.run_audit.specs.Replay.{IsInSituation};
-ghost use Rattle.run_audit.specs.Settings.{is_plain};
 
+use crate::arms::play_by_arms;
+use crate::free::play_free;
 use crate::lines::Rest;
-use crate::replay::Replay;
+use crate::play::play_tasks;
+use crate::settle::{play_settling, play_walk};
 use crate::verdict::Stop;
 use due_set::JobTable;
+use run_replay::Replay;
 use script_text::Command;
 use zone_minutes::Minute;
 
@@ -34,141 +37,140 @@ fn is_plain(command: &Command) -> bool
     }
 }
 
-impl Replay {
-    // A round, in which a disk that is armed may stop.
-    fn play_round_by_arms(
-        &mut self,
-        table: &JobTable,
-        rest: &mut Rest<'_>,
-        at: Minute,
-    ) -> Result<(), Stop>
-        requires ready { IsInSituation table.now self.old }
-        requires names { HasUnblankNames table.now }
-        requires few { rest.old.number + length rest.old.text.now < 2 ^ 32 }
-        requires inside { IsInWindow table.now.window at.0 }
-        ensures { ComesOf table.now (BeginsToPlayByArms self.old.book.members (round_tasks self.old.book.members table.now.window at.0))
-            (PlaysByArms self.old.book.members (round_tasks self.old.book.members table.now.window at.0)) self.old rest.old self.new rest.new result }
-    {
-        let tasks = self.round_tasks(table, at)?;
-        self.play_by_arms(table, rest, &tasks)
-    }
+// A round, in which a disk that is armed may stop.
+fn play_round_by_arms(
+    replay: &mut Replay,
+    table: &JobTable,
+    rest: &mut Rest<'_>,
+    at: Minute,
+) -> Result<(), Stop>
+    requires ready { IsInSituation table.now replay.old }
+    requires names { HasUnblankNames table.now }
+    requires few { rest.old.number + length rest.old.text.now < 2 ^ 32 }
+    requires inside { IsInWindow table.now.window at.0 }
+    ensures { ComesOf table.now (BeginsToPlayByArms replay.old.book.members (round_tasks replay.old.book.members table.now.window at.0))
+        (PlaysByArms replay.old.book.members (round_tasks replay.old.book.members table.now.window at.0))
+        replay.old rest.old replay.new rest.new result }
+{
+    let tasks = replay.round_tasks(table, at)?;
+    play_by_arms(replay, table, rest, &tasks)
+}
 
-    // So many rounds, in which a disk that is armed may stop.
-    fn play_rounds(
-        &mut self,
-        table: &JobTable,
-        rest: &mut Rest<'_>,
-        at: Minute,
-        rounds: u32,
-    ) -> Result<(), Stop>
-        requires ready { IsInSituation table.now self.old }
-        requires names { HasUnblankNames table.now }
-        requires few { rest.old.number + length rest.old.text.now < 2 ^ 32 }
-        requires inside { IsInWindow table.now.window at.0 }
-        ensures { ComesOf table.now (BeginsRounds self.old.book.members table.now.window at.0 rounds)
-            (AreRoundsByArms self.old.book.members table.now.window at.0 rounds) self.old rest.old self.new rest.new result }
-    {
-        'rounds: for _round in 0..rounds {
-            self.play_round_by_arms(table, rest, at)?;
+// So many rounds, in which a disk that is armed may stop.
+fn play_rounds(
+    replay: &mut Replay,
+    table: &JobTable,
+    rest: &mut Rest<'_>,
+    at: Minute,
+    rounds: u32,
+) -> Result<(), Stop>
+    requires ready { IsInSituation table.now replay.old }
+    requires names { HasUnblankNames table.now }
+    requires few { rest.old.number + length rest.old.text.now < 2 ^ 32 }
+    requires inside { IsInWindow table.now.window at.0 }
+    ensures { ComesOf table.now (BeginsRounds replay.old.book.members table.now.window at.0 rounds)
+        (AreRoundsByArms replay.old.book.members table.now.window at.0 rounds) replay.old rest.old replay.new rest.new result }
+{
+    'rounds: for _round in 0..rounds {
+        play_round_by_arms(replay, table, rest, at)?;
+    }
+    Ok(())
+}
+
+// The turn that a command asks for, where it asks for one, on a disk that may be armed.
+fn play_task_for(
+    replay: &mut Replay,
+    table: &JobTable,
+    rest: &mut Rest<'_>,
+    command: &Command,
+) -> Result<(), Stop>
+    requires ready { IsInSituation table.now replay.old }
+    requires names { HasUnblankNames table.now }
+    requires few { rest.old.number + length rest.old.text.now < 2 ^ 32 }
+    requires range { IsInRange replay.old.book.members table.now.window command.now }
+    ensures { ComesOf table.now (BeginsToPlayByArms replay.old.book.members (tasks_for command.now))
+        (PlaysByArms replay.old.book.members (tasks_for command.now)) replay.old rest.old replay.new rest.new result }
+{
+    let tasks = replay.tasks_for(table, command)?;
+    play_by_arms(replay, table, rest, &tasks)
+}
+
+// The turn that a command asks for, where it asks for one, and then what it sets.
+fn play_plain(
+    replay: &mut Replay,
+    table: &JobTable,
+    rest: &mut Rest<'_>,
+    command: &Command,
+) -> Result<(), Stop>
+    requires ready { IsInSituation table.now replay.old }
+    requires names { HasUnblankNames table.now }
+    requires few { rest.old.number + length rest.old.text.now < 2 ^ 32 }
+    requires range { IsInRange replay.old.book.members table.now.window command.now }
+    ensures { ComesOf table.now (BeginsToPlay replay.old.book.members (tasks_for command.now))
+        (Plain replay.old.book.members (tasks_for command.now) (set_by command.now)) replay.old rest.old replay.new rest.new result }
+{
+    let tasks = replay.tasks_for(table, command)?;
+    play_tasks(replay, table, rest, &tasks)?;
+    replay.set_by(command)?;
+    Ok(())
+}
+
+// The part of a command that plays turns on disks that may stop, settles or walks, or arms a disk.
+fn play_long(
+    replay: &mut Replay,
+    table: &JobTable,
+    rest: &mut Rest<'_>,
+    command: &Command,
+) -> Result<(), Stop>
+    requires ready { IsInSituation table.now replay.old }
+    requires names { HasUnblankNames table.now }
+    requires few { rest.old.number + length rest.old.text.now < 2 ^ 32 }
+    requires range { IsInRange replay.old.book.members table.now.window command.now }
+    requires long { is_plain command.now ≡ false }
+    ensures { ComesOf table.now (BeginsPart replay.old.book.members table.now command.now) (IsPartOf replay.old.book.members table.now command.now)
+        replay.old rest.old replay.new rest.new result }
+{
+    match *command {
+        Command::Campaign { .. } => play_task_for(replay, table, rest, command),
+        Command::Round { at, rounds } => play_rounds(replay, table, rest, at, rounds),
+        Command::Settle { at } => {
+            play_settling(replay, table, rest, at)?;
+            Ok(())
         }
-        Ok(())
-    }
-
-    // The turn that a command asks for, where it asks for one, on a disk that may be armed.
-    fn play_task_for(
-        &mut self,
-        table: &JobTable,
-        rest: &mut Rest<'_>,
-        command: &Command,
-    ) -> Result<(), Stop>
-        requires ready { IsInSituation table.now self.old }
-        requires names { HasUnblankNames table.now }
-        requires few { rest.old.number + length rest.old.text.now < 2 ^ 32 }
-        requires range { IsInRange self.old.book.members table.now.window command.now }
-        ensures { ComesOf table.now (BeginsToPlayByArms self.old.book.members (tasks_for command.now))
-            (PlaysByArms self.old.book.members (tasks_for command.now)) self.old rest.old self.new rest.new result }
-    {
-        let tasks = self.tasks_for(table, command)?;
-        self.play_by_arms(table, rest, &tasks)
-    }
-
-    // The turn that a command asks for, where it asks for one, and then what it sets.
-    fn play_plain(
-        &mut self,
-        table: &JobTable,
-        rest: &mut Rest<'_>,
-        command: &Command,
-    ) -> Result<(), Stop>
-        requires ready { IsInSituation table.now self.old }
-        requires names { HasUnblankNames table.now }
-        requires few { rest.old.number + length rest.old.text.now < 2 ^ 32 }
-        requires range { IsInRange self.old.book.members table.now.window command.now }
-        ensures { ComesOf table.now (BeginsToPlay self.old.book.members (tasks_for command.now))
-            (Plain self.old.book.members (tasks_for command.now) (set_by command.now)) self.old rest.old self.new rest.new result }
-    {
-        let tasks = self.tasks_for(table, command)?;
-        self.play_tasks(table, rest, &tasks)?;
-        self.set_by(command)?;
-        Ok(())
-    }
-
-    // The part of a command that plays turns on disks that may stop, settles or walks, or arms a disk.
-    fn play_long(
-        &mut self,
-        table: &JobTable,
-        rest: &mut Rest<'_>,
-        command: &Command,
-    ) -> Result<(), Stop>
-        requires ready { IsInSituation table.now self.old }
-        requires names { HasUnblankNames table.now }
-        requires few { rest.old.number + length rest.old.text.now < 2 ^ 32 }
-        requires range { IsInRange self.old.book.members table.now.window command.now }
-        requires long { is_plain command.now ≡ false }
-        ensures { ComesOf table.now (BeginsPart self.old.book.members table.now command.now) (IsPartOf self.old.book.members table.now command.now)
-            self.old rest.old self.new rest.new result }
-    {
-        match *command {
-            Command::Campaign { .. } => self.play_task_for(table, rest, command),
-            Command::Round { at, rounds } => self.play_rounds(table, rest, at, rounds),
-            Command::Settle { at } => {
-                self.play_settling(table, rest, at)?;
-                Ok(())
-            }
-            Command::Walk { to } => self.play_walk(table, rest, to),
-            Command::Break {
-                member,
-                pass,
-                image,
-            } => {
-                self.arm(member, pass, image);
-                Ok(())
-            }
-            Command::Free { at, turns } => self.play_free(table, rest, at, turns),
-            _ => unreachable!(),
+        Command::Walk { to } => play_walk(replay, table, rest, to),
+        Command::Break {
+            member,
+            pass,
+            image,
+        } => {
+            replay.arm(member, pass, image);
+            Ok(())
         }
+        Command::Free { at, turns } => play_free(replay, table, rest, at, turns),
+        _ => unreachable!(),
     }
+}
 
-    /// The part of a command by the lines of a text.
-    ///
-    /// # Errors
-    ///
-    /// The first line that isn't that of the part's next turn, and want of memory.
-    pub(crate) fn play_part(
-        &mut self,
-        table: &JobTable,
-        rest: &mut Rest<'_>,
-        command: &Command,
-    ) -> Result<(), Stop>
-        requires ready { IsInSituation table.now self.old }
-        requires names { HasUnblankNames table.now }
-        requires few { rest.old.number + length rest.old.text.now < 2 ^ 32 }
-        requires range { IsInRange self.old.book.members table.now.window command.now }
-        ensures { ComesOf table.now (BeginsPart self.old.book.members table.now command.now) (IsPartOf self.old.book.members table.now command.now)
-            self.old rest.old self.new rest.new result }
-    {
-        if is_plain(command) {
-            return self.play_plain(table, rest, command);
-        }
-        self.play_long(table, rest, command)
+/// The part of a command by the lines of a text.
+///
+/// # Errors
+///
+/// The first line that isn't that of the part's next turn, and want of memory.
+pub(crate) fn play_part(
+    replay: &mut Replay,
+    table: &JobTable,
+    rest: &mut Rest<'_>,
+    command: &Command,
+) -> Result<(), Stop>
+    requires ready { IsInSituation table.now replay.old }
+    requires names { HasUnblankNames table.now }
+    requires few { rest.old.number + length rest.old.text.now < 2 ^ 32 }
+    requires range { IsInRange replay.old.book.members table.now.window command.now }
+    ensures { ComesOf table.now (BeginsPart replay.old.book.members table.now command.now) (IsPartOf replay.old.book.members table.now command.now)
+        replay.old rest.old replay.new rest.new result }
+{
+    if is_plain(command) {
+        return play_plain(replay, table, rest, command);
     }
+    play_long(replay, table, rest, command)
 }

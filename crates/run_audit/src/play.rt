@@ -8,24 +8,22 @@ ghost use Rattle.journal_text.specs.Line.{HasUnblankNames};
 ghost use Rattle.script_semantics.specs.Parts.{Plays};
 ghost use Rattle.script_semantics.specs.Situation.{IsTurnFor};
 ghost use Rattle.world_law.specs.Book.{call_of};
+ghost use Rattle.run_replay.specs.Replay.{IsInSituation};
+ghost use Rattle.run_replay.specs.Tasks.{task_of, tasks_in};
 ghost use Rattle.run_audit.specs.Begins.{BeginsToPlay};
 ghost use Rattle.run_audit.specs.Coming.{Comes, HaveFates, IsRefusalOf, GoesNoFurther, StopsTask, TakesTask};
 ghost use Rattle.run_audit.specs.Played.{ComesOf};
 ghost use Rattle.run_audit.specs.Reading.{ReadsNext};
-ghost use Rattle.run_audit.specs.Replay.{IsInSituation};
-ghost use Rattle.run_audit.specs.Tasks.{task_of, tasks_in};
 ghost use Rattle.run_audit.specs.declared.lines.Rest.{Rest as Unread};
 
-use crate::judge::Judged;
 use crate::lines::{Next, Rest};
-use crate::replay::Replay;
-use crate::tasks::Task;
 use crate::verdict::{Stop, Why};
 use cluster_sched::Fate;
 use cron_io::OutOfMemory;
 use due_set::JobTable;
 use history::{CallRow, Cause, Turn};
 use journal_line::JournalLine;
+use run_replay::{Judged, Replay, Task};
 use world_law::Book;
 
 /// What a text goes on with.
@@ -178,116 +176,123 @@ fn is_arrival_of(turn: Turn, late: u32) -> bool
     }
 }
 
-impl Replay {
-    /// Whether a turn is that of a task.
-    pub(crate) fn is_turn_for(&self, task: Task, turn: Turn) -> bool
-        requires member { IfSome (turn_of turn) (λ who. who < length self.now.settings.items) }
-        ensures { (fates : ℕ → Becomes) → HaveFates fates self.now.settings.items → IsTrue result ↔ IsTurnFor fates (task_of task) turn }
-    {
-        match task {
-            Task::Do { who, cause } => {
-                if !is_step_of(turn, who, cause) {
-                    return false;
-                }
-                has_fate(call_in(turn), self.settings[who as usize].fate)
+/// Whether a turn is that of a task.
+pub(crate) fn is_turn_for(replay: &Replay, task: Task, turn: Turn) -> bool
+    requires member { IfSome (turn_of turn) (λ who. who < length replay.now.settings.items) }
+    ensures { (fates : ℕ → Becomes) → HaveFates fates replay.now.settings.items → IsTrue result ↔ IsTurnFor fates (task_of task) turn }
+{
+    match task {
+        Task::Do { who, cause } => {
+            if !is_step_of(turn, who, cause) {
+                return false;
             }
-            Task::Stop { who } => is_stop_between(turn, who),
-            Task::Restart { who } => is_restart_of(turn, who),
-            Task::Arrive { late } => is_arrival_of(turn, late),
+            has_fate(call_in(turn), replay.settings[who as usize].fate)
         }
+        Task::Stop { who } => is_stop_between(turn, who),
+        Task::Restart { who } => is_restart_of(turn, who),
+        Task::Arrive { late } => is_arrival_of(turn, late),
     }
+}
 
-    /// Judges what was read of a text as the line of a turn.
-    ///
-    /// # Errors
-    ///
-    /// Want of memory.
-    pub(crate) fn judge_next(
-        &mut self,
-        table: &JobTable,
-        next: Next<'_>,
-    ) -> Result<Coming, OutOfMemory>
-        requires ready { IsInSituation table.now self.old }
-        requires names { HasUnblankNames table.now }
-        ensures { (text rest : Unread) → ReadsNext text rest next.entry → IfOk result (Comes table.now self.old self.new text rest) }
-    {
-        count_book(&self.book);
-        match next {
-            Next::Line(line) => match self.judge(table, line)? {
-                Some(judged) => Ok(Coming::Turn(judged)),
-                None => Ok(Coming::Refused(refusal_of(line))),
-            },
-            Next::Bad => Ok(Coming::Refused(Why::BadLine)),
-            Next::End => Ok(Coming::Refused(Why::Missing)),
-        }
+/// Judges what was read of a text as the line of a turn.
+///
+/// # Errors
+///
+/// Want of memory.
+pub(crate) fn judge_next(
+    replay: &mut Replay,
+    table: &JobTable,
+    next: Next<'_>,
+) -> Result<Coming, OutOfMemory>
+    requires ready { IsInSituation table.now replay.old }
+    requires names { HasUnblankNames table.now }
+    ensures { (text rest : Unread) → ReadsNext text rest next.entry → IfOk result (Comes table.now replay.old replay.new text rest) }
+{
+    count_book(&replay.book);
+    match next {
+        Next::Line(line) => match replay.judge(table, line)? {
+            Some(judged) => Ok(Coming::Turn(judged)),
+            None => Ok(Coming::Refused(refusal_of(line))),
+        },
+        Next::Bad => Ok(Coming::Refused(Why::BadLine)),
+        Next::End => Ok(Coming::Refused(Why::Missing)),
     }
+}
 
-    /// Why a text can't go on with what was read of it, where the script has something else there.
-    ///
-    /// # Errors
-    ///
-    /// Want of memory.
-    pub(crate) fn refusal(&mut self, table: &JobTable, next: Next<'_>) -> Result<Why, OutOfMemory>
-        requires ready { IsInSituation table.now self.old }
-        requires names { HasUnblankNames table.now }
-        ensures { (text rest : Unread) → ReadsNext text rest next.entry → IfOk result (GoesNoFurther table.now self.old text) }
-    {
-        match self.judge_next(table, next)? {
-            Coming::Refused(why) => return Ok(why),
-            Coming::Turn(_) => {}
-        }
-        Ok(Why::NotObeyed)
+/// Why a text can't go on with what was read of it, where the script has something else there.
+///
+/// # Errors
+///
+/// Want of memory.
+pub(crate) fn refusal(
+    replay: &mut Replay,
+    table: &JobTable,
+    next: Next<'_>,
+) -> Result<Why, OutOfMemory>
+    requires ready { IsInSituation table.now replay.old }
+    requires names { HasUnblankNames table.now }
+    ensures { (text rest : Unread) → ReadsNext text rest next.entry → IfOk result (GoesNoFurther table.now replay.old text) }
+{
+    match judge_next(replay, table, next)? {
+        Coming::Refused(why) => return Ok(why),
+        Coming::Turn(_) => {}
     }
+    Ok(Why::NotObeyed)
+}
 
-    // Takes the turn of a task by the next line of a text.
-    fn play_task(&mut self, table: &JobTable, rest: &mut Rest<'_>, task: Task) -> Result<(), Stop>
-        requires ready { IsInSituation table.now self.old }
-        requires names { HasUnblankNames table.now }
-        requires few { rest.old.number + length rest.old.text.now < 2 ^ 32 }
-        ensures takes { OnOk result (TakesTask table.now (task_of task) self.old self.new rest.old rest.new) }
-        ensures stops { IfErr result (StopsTask table.now (task_of task) self.old rest.old) }
-        ensures few { rest.new.number + length rest.new.text.now < 2 ^ 32 }
-        ensures members { OnOk result (self.new.book.members ≡ self.old.book.members) }
-    {
-        let line = rest.number;
-        let next = rest.read();
-        match self.judge_next(table, next)? {
-            Coming::Refused(why) => Err(Stop::At { line, why }),
-            Coming::Turn(judged) => {
-                if !self.is_turn_for(task, judged.turn) {
-                    return Err(Stop::At {
-                        line,
-                        why: Why::NotObeyed,
-                    });
-                }
-                self.take(table, judged);
-                Ok(())
+// Takes the turn of a task by the next line of a text.
+fn play_task(
+    replay: &mut Replay,
+    table: &JobTable,
+    rest: &mut Rest<'_>,
+    task: Task,
+) -> Result<(), Stop>
+    requires ready { IsInSituation table.now replay.old }
+    requires names { HasUnblankNames table.now }
+    requires few { rest.old.number + length rest.old.text.now < 2 ^ 32 }
+    ensures takes { OnOk result (TakesTask table.now (task_of task) replay.old replay.new rest.old rest.new) }
+    ensures stops { IfErr result (StopsTask table.now (task_of task) replay.old rest.old) }
+    ensures few { rest.new.number + length rest.new.text.now < 2 ^ 32 }
+    ensures members { OnOk result (replay.new.book.members ≡ replay.old.book.members) }
+{
+    let line = rest.number;
+    let next = rest.read();
+    match judge_next(replay, table, next)? {
+        Coming::Refused(why) => Err(Stop::At { line, why }),
+        Coming::Turn(judged) => {
+            if !is_turn_for(replay, task, judged.turn) {
+                return Err(Stop::At {
+                    line,
+                    why: Why::NotObeyed,
+                });
             }
+            replay.take(table, judged);
+            Ok(())
         }
     }
+}
 
-    /// Takes the turns of tasks by the lines of a text, one after another. Their letters join the mails behind them.
-    ///
-    /// # Errors
-    ///
-    /// The first line that isn't that of the next task's turn, and want of memory.
-    pub(crate) fn play_tasks(
-        &mut self,
-        table: &JobTable,
-        rest: &mut Rest<'_>,
-        tasks: &[Task],
-    ) -> Result<(), Stop>
-        requires ready { IsInSituation table.now self.old }
-        requires names { HasUnblankNames table.now }
-        requires few { rest.old.number + length rest.old.text.now < 2 ^ 32 }
-        ensures { ComesOf table.now (BeginsToPlay self.old.book.members (λ situation. tasks_in tasks.now))
-            (Plays self.old.book.members (λ situation. tasks_in tasks.now)) self.old rest.old self.new rest.new result }
-    {
-        let first = self.book.letters().len() as u64;
-        'tasks: for task in tasks {
-            self.play_task(table, rest, *task)?;
-        }
-        self.deliver(first)?;
-        Ok(())
+/// Takes the turns of tasks by the lines of a text, one after another. Their letters join the mails behind them.
+///
+/// # Errors
+///
+/// The first line that isn't that of the next task's turn, and want of memory.
+pub(crate) fn play_tasks(
+    replay: &mut Replay,
+    table: &JobTable,
+    rest: &mut Rest<'_>,
+    tasks: &[Task],
+) -> Result<(), Stop>
+    requires ready { IsInSituation table.now replay.old }
+    requires names { HasUnblankNames table.now }
+    requires few { rest.old.number + length rest.old.text.now < 2 ^ 32 }
+    ensures { ComesOf table.now (BeginsToPlay replay.old.book.members (λ situation. tasks_in tasks.now))
+        (Plays replay.old.book.members (λ situation. tasks_in tasks.now)) replay.old rest.old replay.new rest.new result }
+{
+    let first = replay.book.letters().len() as u64;
+    'tasks: for task in tasks {
+        play_task(replay, table, rest, *task)?;
     }
+    replay.deliver(first)?;
+    Ok(())
 }

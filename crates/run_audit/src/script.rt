@@ -7,17 +7,19 @@ ghost use Rattle.script_semantics.specs.Settling.{Walks};
 ghost use Rattle.script_semantics.specs.Situation.{first_situation};
 ghost use Rattle.script_text.specs.Command.{IsInRange};
 ghost use Rattle.zone_minutes.specs.Window.{IsInWindow};
+ghost use Rattle.run_replay.specs.Replay.{IsInSituation, IsReplayAt};
 ghost use Rattle.run_audit.specs.Begins.{BeginsPart, BeginsWalk};
 ghost use Rattle.run_audit.specs.Headings.{ComesBehind, heading_text};
 ghost use Rattle.run_audit.specs.Played.{PlaysScript};
-ghost use Rattle.run_audit.specs.Replay.{IsInSituation, IsReplayAt};
 ghost use Rattle.run_audit.specs.declared.heading.Heading.TheVariants.{Command as CommandLine, Walk as WalkLine};
 
-use crate::heading::Heading;
+use crate::heading::{Heading, pass_end, pass_heading};
 use crate::lines::Rest;
-use crate::replay::Replay;
+use crate::parts::play_part;
+use crate::settle::play_walk;
 use crate::verdict::Stop;
 use due_set::JobTable;
+use run_replay::Replay;
 use script_text::Command;
 use zone_minutes::Minute;
 
@@ -29,38 +31,36 @@ fn last_minute(table: &JobTable) -> Minute
     Minute(table.window().until.0 - 1)
 }
 
-impl Replay {
-    // The part of a command by the lines of a text, with the line before it, which has its number from 1.
-    fn play_command_part(
-        &mut self,
-        table: &JobTable,
-        rest: &mut Rest<'_>,
-        number: u64,
-        command: &Command,
-    ) -> Result<(), Stop>
-        requires ready { IsInSituation table.now self.old }
-        requires names { HasUnblankNames table.now }
-        requires few { rest.old.number + length rest.old.text.now < 2 ^ 32 }
-        requires range { IsInRange self.old.book.members table.now.window command.now }
-        ensures { ComesBehind table.now (heading_text (CommandLine number)) (BeginsPart self.old.book.members table.now command.now)
-            (IsPartOf self.old.book.members table.now command.now) self.old rest.old self.new rest.new result }
-    {
-        self.pass_heading(table, rest, Heading::Command(number))?;
-        self.play_part(table, rest, command)
-    }
+// The part of a command by the lines of a text, with the line before it, which has its number from 1.
+fn play_command_part(
+    replay: &mut Replay,
+    table: &JobTable,
+    rest: &mut Rest<'_>,
+    number: u64,
+    command: &Command,
+) -> Result<(), Stop>
+    requires ready { IsInSituation table.now replay.old }
+    requires names { HasUnblankNames table.now }
+    requires few { rest.old.number + length rest.old.text.now < 2 ^ 32 }
+    requires range { IsInRange replay.old.book.members table.now.window command.now }
+    ensures { ComesBehind table.now (heading_text (CommandLine number)) (BeginsPart replay.old.book.members table.now command.now)
+        (IsPartOf replay.old.book.members table.now command.now) replay.old rest.old replay.new rest.new result }
+{
+    pass_heading(replay, table, rest, Heading::Command(number))?;
+    play_part(replay, table, rest, command)
+}
 
-    // The walk to the window's last minute, with the line before it.
-    fn play_last(&mut self, table: &JobTable, rest: &mut Rest<'_>) -> Result<(), Stop>
-        requires ready { IsInSituation table.now self.old }
-        requires names { HasUnblankNames table.now }
-        requires few { rest.old.number + length rest.old.text.now < 2 ^ 32 }
-        ensures { ComesBehind table.now (heading_text WalkLine) (BeginsWalk self.old.book.members table.now (table.now.window.until.0 -ℤ pos 1))
-            (Walks self.old.book.members table.now (table.now.window.until.0 -ℤ pos 1)) self.old rest.old self.new rest.new result }
-    {
-        self.pass_heading(table, rest, Heading::Walk)?;
-        let to = last_minute(table);
-        self.play_walk(table, rest, to)
-    }
+// The walk to the window's last minute, with the line before it.
+fn play_last(replay: &mut Replay, table: &JobTable, rest: &mut Rest<'_>) -> Result<(), Stop>
+    requires ready { IsInSituation table.now replay.old }
+    requires names { HasUnblankNames table.now }
+    requires few { rest.old.number + length rest.old.text.now < 2 ^ 32 }
+    ensures { ComesBehind table.now (heading_text WalkLine) (BeginsWalk replay.old.book.members table.now (table.now.window.until.0 -ℤ pos 1))
+        (Walks replay.old.book.members table.now (table.now.window.until.0 -ℤ pos 1)) replay.old rest.old replay.new rest.new result }
+{
+    pass_heading(replay, table, rest, Heading::Walk)?;
+    let to = last_minute(table);
+    play_walk(replay, table, rest, to)
 }
 
 /// Plays a script by the lines of a text, from the first one on.
@@ -82,11 +82,11 @@ pub(crate) fn play_script(
     ensures members { OnOk result (replay.new.book.members ≡ replay.old.book.members) }
 {
     let mut rest = Rest { text, number: 1 };
-    replay.pass_heading(table, &mut rest, Heading::First)?;
+    pass_heading(replay, table, &mut rest, Heading::First)?;
     'parts: for place in 0..script.len() {
-        replay.play_command_part(table, &mut rest, place as u64 + 1, &script[place])?;
+        play_command_part(replay, table, &mut rest, place as u64 + 1, &script[place])?;
     }
-    replay.play_last(table, &mut rest)?;
-    replay.pass_heading(table, &mut rest, Heading::Last)?;
-    replay.pass_end(table, &mut rest)
+    play_last(replay, table, &mut rest)?;
+    pass_heading(replay, table, &mut rest, Heading::Last)?;
+    pass_end(replay, table, &mut rest)
 }

@@ -1,10 +1,10 @@
 use Rattle.std.proofs.Common.{◌≤◌, ◌∙◌, ap, length, sym, subst}
 use Rattle.std.specs.Prelude.{not}
 use Rattle.script_semantics.specs.Arms.{is_task_of}
+use Rattle.run_replay.specs.Tasks.{task_of}
+use Rattle.run_replay.specs.declared.tasks.Task.{Task}
 use Rattle.run_audit.proofs.ByArmsLemmas.{fewer_left, left_without}
 use Rattle.run_audit.specs.ByArms.{tasks_backwards, tasks_without}
-use Rattle.run_audit.specs.Tasks.{task_of}
-use Rattle.run_audit.specs.declared.tasks.Task.{Task}
 use Rattle.run_audit.proofs.arms.leave_out_stopped.Goals as goal
 
 pub returns-in-None-clause-left : goal.returns-in-None-clause-left

@@ -1,6 +1,6 @@
 use Rattle.std.proofs.Common.{◌≡◌, ◌<◌, ◌≤◌, ◌↔◌, IsTrue, subst}
+use Rattle.run_replay.specs.Replay.{armed_of}
 use Rattle.run_audit.proofs.DiskLemmas.{enough_left, no_arm, no_change, too_few}
-use Rattle.run_audit.specs.Replay.{armed_of}
 use Rattle.run_audit.proofs.arms.stops_by.Goals as goal
 
 pub returns-in-None : goal.returns-in-None

@@ -1,6 +1,0 @@
-use Rattle.std.proofs.Common.{◌<◌, ℕ}
-use Rattle.run_audit.specs.Freely.{IsWaiting}
-use Rattle.run_audit.proofs.replay.Replay.next_waiting.Given as goal
-
-abbrev pub invariant-members : goal.invariant-members
-invariant-members l = (who : ℕ) → who < l.who → IsWaiting l.turns l.self l.list who → ⊥

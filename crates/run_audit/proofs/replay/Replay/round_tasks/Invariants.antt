@@ -1,7 +1,0 @@
-use Rattle.script_semantics.specs.Round.{tasks_of}
-use Rattle.run_audit.proofs.TaskLemmas.{asked_of}
-use Rattle.run_audit.specs.Tasks.{AreAsked}
-use Rattle.run_audit.proofs.replay.Replay.round_tasks.Given as goal
-
-abbrev pub invariant-members : goal.invariant-members
-invariant-members l = AreAsked (asked_of (tasks_of l.window l.at.0) l.who) l.self l.tasks.items

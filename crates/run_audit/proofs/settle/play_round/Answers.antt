@@ -1,0 +1,18 @@
+use Rattle.std.proofs.Common.{subst, sym}
+use Rattle.script_semantics.specs.Round.{round_tasks}
+use Rattle.run_replay.specs.Tasks.{AreAsked}
+use Rattle.run_audit.proofs.PartLemmas.{asked_comes}
+use Rattle.run_audit.proofs.PlayLemmas.{comes_out}
+use Rattle.run_audit.specs.Begins.{BeginsToPlay}
+use Rattle.script_semantics.specs.Parts.{Plays}
+use Rattle.run_audit.proofs.settle.play_round.Goals as goal
+
+pub returns : goal.returns
+returns c =
+    asked_comes c.args.table.now (round_tasks c.args.replay.now.book.members c.args.table.now.window c.args.at.0) c.args.replay.now.book.members c.deref.result.now c.args.replay.now c.args.rest.now c.play_tasks.new.replay c.play_tasks.new.rest
+    c.play_tasks.result (subst (AreAsked (round_tasks c.args.replay.now.book.members c.args.table.now.window c.args.at.0) c.args.replay.now) (sym c.deref.ensures.value) c.in_ok-tasks.ensures) c.play_tasks.ensures
+
+pub returns-in_err-tasks : goal.returns-in_err-tasks
+returns-in_err-tasks c =
+    comes_out c.args.table.now (BeginsToPlay c.args.replay.now.book.members (round_tasks c.args.replay.now.book.members c.args.table.now.window c.args.at.0)) (Plays c.args.replay.now.book.members (round_tasks c.args.replay.now.book.members c.args.table.now.window c.args.at.0)) c.args.replay.now c.args.rest.now _ _ _
+    c.from_residual.ensures.1

@@ -1,0 +1,13 @@
+pub mod QuietLemmas
+pub mod MinuteLemmas
+pub mod SettingLemmas
+pub mod RepeatLemmas
+pub mod StartLemmas
+pub mod StepLemmas
+pub mod ToldLemmas
+pub mod JudgeLemmas
+pub mod TakeLemmas
+pub mod DeliverLemmas
+pub mod TaskLemmas
+pub mod CallLemmas
+pub mod WithinLemmas

@@ -1,0 +1,9 @@
+pub mod Delivered
+pub mod Judged
+pub mod Quiet
+pub mod Replay
+pub mod Settings
+pub mod Start
+pub mod Taken
+pub mod Tasks
+pub mod Turns
