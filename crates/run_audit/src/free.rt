@@ -112,7 +112,7 @@ fn cause_of_next(
     if !progress.has_letter {
         return idle;
     }
-    match setting.mail.first() {
+    match setting.mail.front() {
         Some(letter) => Cause::Hear { letter: *letter },
         None => idle,
     }

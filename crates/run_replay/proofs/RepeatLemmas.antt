@@ -1,6 +1,8 @@
 -- Letters that join their mail once more.
-use Rattle.std.proofs.Common.{◌≡◌, ◌≢◌, ℕ, Bool, true, false, eqb, not, ◌&&◌, ◌==◌, if◌then◌else◌, List, [], ◌∷◌, ◌++◌, length, filter, take, get_or, ◌+◌, ◌<◌, ◌⊎◌, eq-eqb, refl, sym, ap, ◌∙◌, subst, inl, inr, add-one, append-nil as append_nil}
+use Rattle.std.proofs.Common.{◌≡◌, ◌≢◌, ℕ, true, false, eqb, not, ◌==◌, if◌then◌else◌, List, [], ◌∷◌, ◌++◌, length, filter, take, get_or, ◌+◌, ◌<◌, eq-eqb, refl, sym, ap, ◌∙◌, inl, inr, add-one, append-nil as append_nil}
 use Rattle.std.specs.List.{list_any, slice_get}
+use Rattle.std.specs.Prelude.{nat_eq}
+use Rattle.indexmap.specs.IndexSet.{insert_key}
 use Rattle.std.proofs.Math.Seq.{take-suc}
 use Rattle.std.proofs.lemmas.Bool.{cases_Bool, eqb-true, ne_eqb}
 use Rattle.std.proofs.lemmas.List.Elements.{filter-append}
@@ -38,52 +40,35 @@ once_next (y ∷ ys) x = elim (cases_Bool (eqb y x)) [
 from_next : (posted : List PostedLetter) (who : ℕ) (xs : List ℕ) (x : ℕ) → from_one posted who (xs ++ x ∷ []) ≡ from_one posted who xs ++ (if is_from who (slice_get posted x) then x ∷ [] else [])
 from_next posted who xs x = filter-append (λ number. is_from who (slice_get posted number)) xs (x ∷ [])
 
-another_is : (a b : Bool) → (a && not b) ≡ true → (a ≡ true) × (b ≡ false)
-another_is true false is = (refl, refl)
-another_is true true is = absurd cc
-another_is false b is = absurd cc
-
-other_is : (a b : Bool) → (a && not b) ≡ false → (a ≡ false) ⊎ (b ≡ true)
-other_is false b is = inl refl
-other_is true true is = inr refl
-other_is true false is = absurd cc
-
--- the letters of a mail that are from a replica, with one more that is another from it
-once_added : (posted : List PostedLetter) (who : ℕ) (xs : List ℕ) (x : ℕ) → (is_from who (slice_get posted x) && not (has_number x (each_once (from_one posted who xs)))) ≡ true
-    → each_once (from_one posted who (xs ++ x ∷ [])) ≡ each_once (from_one posted who xs) ++ x ∷ []
-once_added posted who xs x another =
-    let both = another_is (is_from who (slice_get posted x)) (has_number x (each_once (from_one posted who xs))) another in
-    ap each_once (from_next posted who xs x) ∙ rw both.0 (once_next (from_one posted who xs) x ∙ rw both.1 refl)
-
--- and with one that isn't
-once_had : (posted : List PostedLetter) (who : ℕ) (xs : List ℕ) (x : ℕ) → (is_from who (slice_get posted x) && not (has_number x (each_once (from_one posted who xs)))) ≡ false
-    → each_once (from_one posted who (xs ++ x ∷ [])) ≡ each_once (from_one posted who xs)
-once_had posted who xs x other = elim (other_is (is_from who (slice_get posted x)) (has_number x (each_once (from_one posted who xs))) other) [
-  | inl isnt ↦ ap each_once (from_next posted who xs x ∙ rw isnt (append_nil _))
-  | inr has ↦ elim (cases_Bool (is_from who (slice_get posted x))) [
-    | inl is ↦ ap each_once (from_next posted who xs x) ∙ rw is (once_next (from_one posted who xs) x ∙ rw has refl)
-    | inr isnt ↦ ap each_once (from_next posted who xs x ∙ rw isnt (append_nil _))
-  ]
+-- a set has a number just where the list of its numbers does
+any_like : (number : ℕ) (numbers : List ℕ) → list_any (nat_eq number) numbers ≡ has_number number numbers
+any_like number [] = refl
+any_like number (first ∷ numbers) = elim (cases_Bool (eqb first number)) [
+  | inl same ↦ (let mine : eqb number first ≡ true = eq-eqb number first (sym (eqb-true first number same)) in rw (same, mine) refl)
+  | inr differs ↦
+      let apart : first ≢ number = λ is. (let e = eq-eqb first number is in cc) in
+      let mine : eqb number first ≡ false = ne_eqb number first (λ is. apart (sym is)) in
+      rw (differs, mine) (any_like number numbers)
 ]
 
 pub one_more : (mail : List ℕ) (place : ℕ) → place < length mail → take (place + 1) mail ≡ take place mail ++ get_or mail place 0 ∷ []
 one_more mail place below = ap (λ n. take n mail) (add-one place) ∙ take-suc mail place 0 below
 
 module _ (posted : List PostedLetter) (who : ℕ) (mail : List ℕ) (place : ℕ) (below : place < length mail) (found : List ℕ) (so_far : found ≡ each_once (from_one posted who (take place mail))) where
-  -- the next letter of a mail is found, or not
-  pub found_next : (is_from who (slice_get posted (get_or mail place 0)) && not (has_number (get_or mail place 0) found)) ≡ true
-      → found ++ get_or mail place 0 ∷ [] ≡ each_once (from_one posted who (take (place + 1) mail))
-  found_next another =
-      ap (λ front. front ++ get_or mail place 0 ∷ []) so_far
-      ∙ sym (once_added posted who (take place mail) (get_or mail place 0) (subst (λ found. (is_from who (slice_get posted (get_or mail place 0)) && not (has_number (get_or mail place 0) found)) ≡ true) so_far another))
-      ∙ ap (λ mail. each_once (from_one posted who mail)) (sym (one_more mail place below))
+  next_mail : from_one posted who (take (place + 1) mail) ≡ from_one posted who (take place mail) ++ (if is_from who (slice_get posted (get_or mail place 0)) then get_or mail place 0 ∷ [] else [])
+  next_mail = ap (from_one posted who) (one_more mail place below) ∙ from_next posted who (take place mail) (get_or mail place 0)
 
-  pub passed_next : (is_from who (slice_get posted (get_or mail place 0)) && not (has_number (get_or mail place 0) found)) ≡ false
-      → found ≡ each_once (from_one posted who (take (place + 1) mail))
-  passed_next other =
-      so_far
-      ∙ sym (once_had posted who (take place mail) (get_or mail place 0) (subst (λ found. (is_from who (slice_get posted (get_or mail place 0)) && not (has_number (get_or mail place 0) found)) ≡ false) so_far other))
-      ∙ ap (λ mail. each_once (from_one posted who mail)) (sym (one_more mail place below))
+  -- the next letter of a mail is found once, or isn't from the replica
+  pub found_next : is_from who (slice_get posted (get_or mail place 0)) ≡ true → insert_key nat_eq found (get_or mail place 0) ≡ each_once (from_one posted who (take (place + 1) mail))
+  found_next is =
+      let number = get_or mail place 0 in
+      let before = each_once (from_one posted who (take place mail)) in
+      ap (λ found. insert_key nat_eq found number) so_far
+      ∙ ap (λ b. if b then before else before ++ number ∷ []) (any_like number before)
+      ∙ sym (ap each_once next_mail ∙ rw is (once_next (from_one posted who (take place mail)) number))
+
+  pub passed_next : is_from who (slice_get posted (get_or mail place 0)) ≡ false → found ≡ each_once (from_one posted who (take (place + 1) mail))
+  passed_next isnt = so_far ∙ sym (ap each_once (next_mail ∙ rw isnt (append_nil _)))
 
 -- ---- a number among others
 

@@ -49,7 +49,7 @@ impl Replay {
         if !self.seats[to as usize].runs() {
             return Ok(());
         }
-        self.settings[to as usize].mail.push(number)?;
+        self.settings[to as usize].mail.push_back(number)?;
         Ok(())
     }
 

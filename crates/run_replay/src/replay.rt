@@ -3,6 +3,7 @@ use cluster_sched::{Fate, SchedRow};
 use paxos_base::Durable;
 use replica_core::Replica;
 use std::alloc::Global;
+use std::collections::VecDeque;
 use world_law::Book;
 use zone_minutes::Minute;
 
@@ -24,7 +25,7 @@ pub struct Arm {
 #[derive(Debug, Drop)]
 pub struct Setting {
     /// The letters of its mail, by their numbers.
-    pub mail: Vec<u64>,
+    pub mail: VecDeque<u64>,
     /// Minutes by which its clock is ahead.
     pub skew: i64,
     pub fate: Fate,

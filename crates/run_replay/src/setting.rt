@@ -1,12 +1,12 @@
 //! What a script sets in a replay: from whom to whom letters are lost, the letters that wait and their order, a clock, what becomes
 //! of a call, a disk that is armed. Nobody has a turn then.
-ghost use Rattle.std.specs.Prelude.{◌≡◌, ◌<◌, ◌&&◌, not, IfNone, IfOk, IfSome, None, OnOk, Some, length, map, slice_get};
+ghost use Rattle.std.specs.Prelude.{◌≡◌, ◌<◌, ◌++◌, IfNone, IfOk, IfSome, None, OnOk, Some, length, map, slice_get};
 ghost use Rattle.due_set.specs.Table.{Table};
 ghost use Rattle.script_text.specs.declared.command.Command.TheVariants as command;
 ghost use Rattle.world_law.specs.Book.{posted_as};
 ghost use Rattle.world_law.specs.declared.letter.LetterRow.{LetterRow};
 ghost use Rattle.script_semantics.specs.Arms.{armed_by};
-ghost use Rattle.script_semantics.specs.Commands.{each_once, fate_of, from_one, from_others, has_number, is_from, set_by};
+ghost use Rattle.script_semantics.specs.Commands.{each_once, fate_of, from_one, from_others, is_from, set_by};
 ghost use Rattle.script_semantics.specs.Settling.{cleared};
 ghost use Rattle.run_replay.specs.Quiet.{runs_by_seat};
 ghost use Rattle.run_replay.specs.Replay.{IsInSituation};
@@ -15,8 +15,10 @@ ghost use Rattle.run_replay.specs.Settings.{AreReset, ChangesReplay, NamesMember
 use crate::replay::{Arm, Replay, Seat, Setting};
 use cluster_sched::Fate;
 use cron_io::OutOfMemory;
+use indexmap::IndexSet;
 use script_text::{Command, FateWord};
 use std::alloc::Global;
+use std::collections::VecDeque;
 use world_law::Book;
 
 // The fate that a word stands for.
@@ -53,31 +55,39 @@ fn addressee_of(book: &Book, number: u32) -> Option<u8>
 }
 
 // The letters from a replica leave a mail.
-fn drop_from(book: &Book, who: u8, mail: &mut Vec<u64>)
+fn drop_from(book: &Book, who: u8, mail: &mut VecDeque<u64>)
     ensures { mail.new.items ≡ from_others (map posted_as book.now.letters) who mail.old.items }
 {
     mail.retain(|number| !is_from(book, who, *number));
 }
 
-// Whether the letter of a number is from a replica and is not among these.
-fn is_another_from(book: &Book, who: u8, found: &[u64], number: u64) -> bool
-    ensures { result ≡ (is_from who (slice_get (map posted_as book.now.letters) number) && not (has_number number found.now)) }
-{
-    is_from(book, who, number) && !found.contains(&number)
-}
-
 // The letters of a mail that are from a replica, each once.
-fn once_from(alloc: Global, book: &Book, who: u8, mail: &[u64]) -> Result<Vec<u64>, OutOfMemory>
-    ensures { IfOk result (λ found. found.items ≡ each_once (from_one (map posted_as book.now.letters) who mail.now)) }
+fn once_from(
+    alloc: Global,
+    book: &Book,
+    who: u8,
+    mail: &VecDeque<u64>,
+) -> Result<IndexSet<u64>, OutOfMemory>
+    ensures { IfOk result (λ found. found.keys ≡ each_once (from_one (map posted_as book.now.letters) who mail.now.items)) }
 {
-    let mut found: Vec<u64> = Vec::new(alloc);
-    'numbers: for number in mail {
-        let number = *number;
-        if is_another_from(book, who, &found, number) {
-            found.push(number)?;
+    let mut found = IndexSet::new(alloc);
+    'numbers: for place in 0..mail.len() {
+        let number = mail[place];
+        if is_from(book, who, number) {
+            found.insert(number)?;
         }
     }
     Ok(found)
+}
+
+// These letters join a mail.
+fn add_all(mail: &mut VecDeque<u64>, numbers: &[u64]) -> Result<(), OutOfMemory>
+    ensures { OnOk result (mail.new.items ≡ mail.old.items ++ numbers.now) }
+{
+    'numbers: for number in numbers {
+        mail.push_back(*number)?;
+    }
+    Ok(())
 }
 
 // No letter waits for a replica, its clock is right, its next call is answered, and its disk isn't armed.
@@ -154,7 +164,7 @@ impl Replay {
     {
         let mail = &mut self.settings[to as usize].mail;
         let once = once_from(self.alloc, &self.book, from, mail)?;
-        mail.extend_from_slice(&once)?;
+        add_all(mail, once.as_slice())?;
         Ok(())
     }
 
@@ -164,7 +174,7 @@ impl Replay {
         ensures sets { ChangesReplay (set_by (command.Reverse who)) self.old self.new }
         ensures book { self.new.book ≡ self.old.book }
     {
-        self.settings[who as usize].mail.reverse();
+        self.settings[who as usize].mail.make_contiguous().reverse();
     }
 
     // A letter joins its addressee's mail once more, where there is such a letter and its addressee runs.
@@ -180,7 +190,9 @@ impl Replay {
         if !self.seats[to as usize].runs() {
             return Ok(());
         }
-        self.settings[to as usize].mail.push(u64::from(number))?;
+        self.settings[to as usize]
+            .mail
+            .push_back(u64::from(number))?;
         Ok(())
     }
 

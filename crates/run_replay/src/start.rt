@@ -14,6 +14,7 @@ use launch_machine::table_size;
 use paxos_base::{Durable, RowList, VoteList};
 use replica_core::Replica;
 use std::alloc::Global;
+use std::collections::VecDeque;
 use world_law::Book;
 
 // What a replica keeps before it has done anything.
@@ -65,7 +66,7 @@ fn fresh_setting(alloc: Global) -> Setting
     ensures { IsFreshSetting result }
 {
     Setting {
-        mail: Vec::new(alloc),
+        mail: VecDeque::new(alloc),
         skew: 0,
         fate: Fate::Done,
         waits: None,

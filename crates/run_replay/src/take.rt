@@ -44,9 +44,7 @@ fn note_step(setting: &mut Setting, cause: Cause, call: Option<CallRow>, change:
     ensures { HasNoted cause call change.now setting.old setting.new }
 {
     if let Cause::Hear { .. } = cause {
-        if !setting.mail.is_empty() {
-            setting.mail.remove(0);
-        }
+        setting.mail.pop_front();
     }
     setting.waits = None;
     if let Some(made) = call {

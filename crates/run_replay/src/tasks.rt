@@ -18,6 +18,7 @@ use due_set::JobTable;
 use history::Cause;
 use script_text::Command;
 use std::alloc::Global;
+use std::collections::VecDeque;
 use term_core::Term;
 use world_law::Book;
 use zone_minutes::{Minute, Window};
@@ -70,11 +71,13 @@ fn add_answer(tasks: &mut Vec<Task>, who: u8, waits: Option<SchedRow>) -> Result
 }
 
 // The letters of a mail are heard, in order.
-fn add_letters(tasks: &mut Vec<Task>, who: u8, mail: &[u64]) -> Result<(), OutOfMemory>
-    ensures { OnOk result (tasks_in tasks.new.items ≡ tasks_in tasks.old.items ++ hear_tasks who mail.now) }
+fn add_letters(tasks: &mut Vec<Task>, who: u8, mail: &VecDeque<u64>) -> Result<(), OutOfMemory>
+    ensures { OnOk result (tasks_in tasks.new.items ≡ tasks_in tasks.old.items ++ hear_tasks who mail.now.items) }
 {
-    'letters: for letter in mail {
-        let cause = Cause::Hear { letter: *letter };
+    'letters: for place in 0..mail.len() {
+        let cause = Cause::Hear {
+            letter: mail[place],
+        };
         tasks.push(Task::Do { who, cause })?;
     }
     Ok(())

@@ -1,4 +1,5 @@
-use Rattle.std.proofs.Common.{◌≡◌, None, Some, arith, sym, ap, ◌∙◌}
+use Rattle.std.proofs.Common.{◌≡◌, None, Some, arith, length, refl, sym, ◌∙◌}
+use Rattle.std.proofs.lemmas.Option.{slice_get_past, slice_get_read}
 use Rattle.std.specs.Int.{w64}
 use Rattle.std.specs.List.{slice_get}
 use Rattle.std.proofs.lemmas.Int.{ints, to_z-of_z}
@@ -16,11 +17,12 @@ returns-then-not-progress c = λ seen saw.
 
 pub returns-in-Some : goal.returns-in-Some
 returns-in-Some c = λ seen saw.
-    let first : slice_get c.args.setting.now.mail.items 0 ≡ Some c.in-Some.letter.now = ap (λ letters. slice_get letters 0) (sym c.deref.ensures.value) ∙ sym c.in-Some.ensures.value in
+    let mail = c.args.setting.now.mail.items in
+    let first : slice_get mail 0 ≡ Some c.in-Some.letter.now = slice_get_read mail (length mail) 0 c.in-Some.letter.now refl c.in-Some.ensures.item.3.0 c.in-Some.ensures.lookup in
     next_letter c.args.window c.args.at.0 c.args.who c.args.progress.taken seen c.args.setting.now c.args.progress c.in-Some.letter.now saw (sym c.is_some.ensures ∙ c.if-is_some.false)
     (not_fails c.args.progress.has_letter c.if-not-progress.false) first
 
 pub returns-in-None : goal.returns-in-None
 returns-in-None c = λ seen saw.
-    let none : slice_get c.args.setting.now.mail.items 0 ≡ None = ap (λ letters. slice_get letters 0) (sym c.deref.ensures.value) ∙ sym c.in-None.ensures.value in
+    let none : slice_get c.args.setting.now.mail.items 0 ≡ None = slice_get_past c.args.setting.now.mail.items 0 c.in-None.ensures.item.3 in
     absurd (letter_there c.args.window c.args.at.0 c.args.who c.args.progress.taken seen c.args.setting.now c.args.progress saw (not_fails c.args.progress.has_letter c.if-not-progress.false) none)

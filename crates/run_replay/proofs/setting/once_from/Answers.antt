@@ -1,22 +1,27 @@
-use Rattle.std.proofs.Common.{◌≡◌, ◌&&◌, true, false, not, map, get_or, sym, ap, ◌∙◌, subst}
+use Rattle.std.proofs.Common.{◌≡◌, ◌<◌, arith, get_or, length, map, sym, ap, ◌∙◌}
 use Rattle.std.specs.List.{slice_get}
-use Rattle.script_semantics.specs.Commands.{has_number, is_from}
+use Rattle.std.specs.Prelude.{nat_eq}
+use Rattle.std.proofs.lemmas.Grind.{get_or_default_zero}
+use Rattle.indexmap.specs.IndexSet.{insert_key}
+use Rattle.script_semantics.specs.Commands.{is_from}
 use Rattle.world_law.specs.Book.{posted_as}
 use Rattle.run_replay.proofs.RepeatLemmas.{found_next, passed_next}
 use Rattle.run_replay.proofs.setting.once_from.Goals as goal
-use Rattle.run_replay.proofs.setting.once_from.Goals.{then-is_another_from+in_ok-push, else-is_another_from}
+use Rattle.run_replay.proofs.setting.once_from.Goals.{then-is_from+in_ok-insert, else-is_from}
 
 pub numbers-preserved : goal.numbers-preserved
 numbers-preserved c =
-    let number = get_or c.args.mail.now c.numbers.number-index 0 in
     let posted = map posted_as c.args.book.now.letters in
-    elim c.if-is_another_from.branch [
-      | then-is_another_from+in_ok-push w ↦
-          ap (λ v. v.items) w.found-is ∙ w.in_ok-push.ensures.items
-          ∙ found_next posted c.args.who c.args.mail.now c.numbers.number-index c.numbers-test.true c.numbers.found.items c.numbers.invariant
-          (subst (λ found. (is_from c.args.who (slice_get posted number) && not (has_number number found)) ≡ true) c.deref.ensures.value (sym c.is_another_from.ensures ∙ w.if-is_another_from.true))
-      | else-is_another_from w ↦
-          ap (λ v. v.items) w.found-is
-          ∙ passed_next posted c.args.who c.args.mail.now c.numbers.number-index c.numbers-test.true c.numbers.found.items c.numbers.invariant
-          (subst (λ found. (is_from c.args.who (slice_get posted number) && not (has_number number found)) ≡ false) c.deref.ensures.value (sym c.is_another_from.ensures ∙ w.if-is_another_from.false))
+    let mail = c.args.mail.now.items in
+    let place = c.numbers.place in
+    let count = c.args.mail.now.ok.0 in
+    let below : place < length mail = omega (arith, count, c.numbers-test.true, c.numbers.auto.place-end, c.len-place-end.ensures) in
+    let letter : c.index-number.result.now ≡ get_or mail place 0 = c.index-number.ensures ∙ get_or_default_zero mail place c.index-number.result.now below in
+    let from = ap (λ number. is_from c.args.who (slice_get posted number)) (sym letter) ∙ sym c.is_from.ensures in
+    elim c.if-is_from.branch [
+      | then-is_from+in_ok-insert w ↦
+          ap (λ found. found.keys) w.found-is ∙ w.in_ok-insert.ensures.keys ∙ ap (insert_key nat_eq c.numbers.found.keys) letter
+          ∙ found_next posted c.args.who mail place below c.numbers.found.keys c.numbers.invariant (from ∙ w.if-is_from.true)
+      | else-is_from w ↦
+          ap (λ found. found.keys) w.found-is ∙ passed_next posted c.args.who mail place below c.numbers.found.keys c.numbers.invariant (from ∙ w.if-is_from.false)
     ]

@@ -3,9 +3,8 @@ use Rattle.std.specs.Int.{w64}
 use Rattle.std.proofs.lemmas.Int.{ints, to_z-of_z}
 use Rattle.std.specs.List.{slice_get}
 use Rattle.std.proofs.lemmas.Option.{slice_get_read}
-use Rattle.script_semantics.specs.Round.{clock_reading, hear_tasks}
+use Rattle.script_semantics.specs.Round.{clock_reading}
 use Rattle.run_replay.proofs.TaskLemmas.{none_listed, round_listed}
-use Rattle.run_replay.specs.Tasks.{tasks_in}
 use Rattle.history.specs.declared.turn.Cause.TheVariants.{Tick}
 use Rattle.run_replay.specs.declared.tasks.Task.TheVariants as listed
 use Rattle.run_replay.proofs.replay.Replay.add_round.Goals as goal
@@ -27,5 +26,5 @@ returns c =
     let reads : c.reading_of-now.result ≡ clock_reading c.args.window c.args.at.0 setting.skew = c.reading_of-now.ensures ∙ ap (clock_reading c.args.window c.args.at.0) skew in
     round_listed c.args.window c.args.at.0 c.args.self.now c.args.who c.index.result.now setting c.args.tasks.now.items c.add_answer.new.tasks.items c.add_letters.new.tasks.items c.push.new.self.items there
     (sym c.runs.ensures ∙ c.if-not-runs.false) here c.in_ok-add_answer.ensures
-    (c.in_ok-add_letters.ensures ∙ ap (λ mail. tasks_in c.add_answer.new.tasks.items ++ hear_tasks c.args.who mail) c.deref.ensures.value)
+    c.in_ok-add_letters.ensures
     (c.in_ok-push.ensures.items ∙ ap (λ now. c.add_letters.new.tasks.items ++ listed.Do c.args.who (Tick now) ∷ []) reads)

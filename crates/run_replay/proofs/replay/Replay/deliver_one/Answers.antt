@@ -49,4 +49,4 @@ returns-clause-arrives c =
     slice_get_read c.args.self.now.settings.items (length c.args.self.now.settings.items) letter.to c.index_mut.result.now refl (omega (arith, total, below)) c.index_mut.ensures.value in
     moved c.args.self.now _ c.args.number letter c.index.result.now c.index_mut.result.now _ c.letter_at-letter.ensures
     (ap (is_cut letter.from letter.to) (sym c.deref.ensures.value) ∙ sym c.is_lost.ensures ∙ c.if-is_lost.false) there (sym c.runs.ensures ∙ c.if-not-runs.false) here refl refl refl refl refl refl
-    c.in_ok-push.ensures.items
+    c.in_ok-push_back.ensures.items

@@ -40,4 +40,4 @@ returns-clause-sets c =
     let here : slice_get c.args.self.now.settings.items c.in-Some.to ≡ Some c.index_mut.result.now =
     slice_get_read c.args.self.now.settings.items (length c.args.self.now.settings.items) c.in-Some.to c.index_mut.result.now refl (omega (arith, ready.is.seated.set, below, found.2)) c.index_mut.ensures.value in
     again_moved c.args.self.now _ c.args.number found.0 c.in-Some.to c.index.result.now c.index_mut.result.now _ found.1 found.2 there (sym c.runs.ensures ∙ c.if-not-runs.false)
-    refl refl refl refl here refl refl (c.in_ok-push.ensures.items ∙ ap (λ number. c.index_mut.result.now.mail.items ++ number ∷ []) c.from.ensures)
+    refl refl refl refl here refl refl (c.in_ok-push_back.ensures.items ∙ ap (λ number. c.index_mut.result.now.mail.items ++ number ∷ []) c.from.ensures)
