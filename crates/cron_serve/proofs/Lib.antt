@@ -9,7 +9,6 @@ pub mod PromiseLemmas
 pub mod SeenLemmas
 pub mod ServeLemmas
 pub mod StatusLemmas
-pub mod TextLemmas
 pub mod VerdictLemmas
 pub mod WatchLemmas
 pub mod WholeLemmas

@@ -20,7 +20,7 @@ use Rattle.cron_serve.specs.Serve.{IsRunOf, IsTextOfInput, WritesText}
 use Rattle.cron_serve.specs.declared.run_end.RunEnd.{RunEnd}
 use Rattle.cron_serve.specs.declared.words.Output.TheVariants.{Summary}
 use Rattle.cron_serve.proofs.PromiseLemmas.{all_due}
-use Rattle.cron_serve.proofs.VerdictLemmas.{same_run}
+use Rattle.run_input.proofs.VerdictLemmas.{same_run}
 use Rattle.cron_serve.proofs.WholeLemmas.{each_within_grace}
 
 -- a run of the text that a seed makes is the run that it makes

@@ -8,9 +8,9 @@ use Rattle.generated_run.specs.Made.{made_run, made_text}
 use Rattle.generated_run.proofs.JobLemmas.{table_exists}
 use Rattle.generated_run.proofs.TextLemmas.{text_is_short, text_says}
 use Rattle.generated_run.proofs.ZeroLemmas.{text_lacks_zero}
-use Rattle.cron_serve.specs.Input.{IsRefusedAsRun, IsRunWithTable}
-use Rattle.cron_serve.proofs.TextLemmas.{texts_of}
-use Rattle.cron_serve.proofs.VerdictLemmas.{taken_or_refused}
+use Rattle.run_input.specs.Input.{IsRefusedAsRun, IsRunWithTable}
+use Rattle.run_input.proofs.TextLemmas.{texts_of}
+use Rattle.run_input.proofs.VerdictLemmas.{taken_or_refused}
 
 -- it is taken, with whichever table its jobs have
 made_taken : (seed : ℕ) (table : Table) → IsUtf8 (made_text seed) → IsTableOf (made_run seed) table → IsRunWithTable (made_text seed) (made_run seed) table

@@ -22,7 +22,7 @@ use Rattle.cron_serve.specs.declared.words.Output.{Output}
 use Rattle.cron_serve.specs.declared.words.Output.TheVariants.{Report, DueList, Check, Summary}
 use Rattle.cron_serve.proofs.PlayLemmas.{few_members}
 use Rattle.cron_serve.proofs.SeenLemmas.{one_watch}
-use Rattle.cron_serve.proofs.VerdictLemmas.{one_frame, one_taken}
+use Rattle.run_input.proofs.VerdictLemmas.{one_frame, one_taken}
 
 module _ (bytes : List ℕ) (book : BookState) (nodes : List (Node MemDisk)) where
   -- two such runs are one run, with one table

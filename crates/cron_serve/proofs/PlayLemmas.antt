@@ -15,7 +15,7 @@ use Rattle.world_rounds.specs.declared.world.World.{World}
 use Rattle.run_outcome.proofs.WholeLemmas.{script_whole}
 use Rattle.script_play.specs.Play.{AreMemNodesOf, HasRun, IsPlayable}
 use Rattle.script_play.proofs.Taken.{script_taken}
-use Rattle.cron_serve.specs.Input.{IsRunWithTable}
+use Rattle.run_input.specs.Input.{IsRunWithTable}
 use Rattle.cron_serve.specs.Serve.{IsRunOf}
 
 module _ (bytes : List ℕ) (run : Run) (table : Table) (taken : IsRunWithTable bytes run table) where

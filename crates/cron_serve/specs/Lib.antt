@@ -1,5 +1,4 @@
 pub mod Words
-pub mod Text
 pub mod Input
 pub mod Promise
 pub mod Watch

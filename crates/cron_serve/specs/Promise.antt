@@ -14,7 +14,7 @@ use Rattle.run_outcome.specs.Readings.{IsGraceLong}
 use Rattle.run_outcome.specs.Whole.{HoldsEachDue}
 use Rattle.script_text.specs.declared.command.Command.{Command}
 use Rattle.run_text.specs.Run.{Run}
-use Rattle.cron_serve.specs.Input.{IsRunWithTable}
+use Rattle.run_input.specs.Input.{IsRunWithTable}
 
 -- a row is held of each due instant of each crontab's job: it was launched, or given up
 abbrev pub HasEachDue : Table → List SchedRow → Type 0

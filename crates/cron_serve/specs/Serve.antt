@@ -20,7 +20,8 @@ use Rattle.script_play.specs.Play.{AreMemNodesOf}
 use Rattle.run_text.specs.Run.{Run}
 use Rattle.run_text.specs.declared.refusal.Refusal.{Refusal}
 use Rattle.job_table.specs.Table.{whole_run}
-use Rattle.cron_serve.specs.Input.{IsOfInput, IsRunWithTable, IsTakenFrame, IsRefusedBytes}
+use Rattle.run_input.specs.Input.{IsRunWithTable, IsTakenFrame}
+use Rattle.cron_serve.specs.Input.{IsOfInput, IsRefusedBytes}
 use Rattle.cron_serve.specs.Watch.{IsBookWatch}
 use Rattle.cron_serve.specs.declared.words.Output.{Output}
 use Rattle.cron_serve.specs.declared.words.Output.TheVariants.{Report, DueList, Check, Summary}

@@ -18,7 +18,6 @@
 #![tactic(auto)]
 
 mod answer;
-mod input;
 mod laws;
 mod made;
 mod note;
@@ -26,7 +25,6 @@ mod program;
 mod run_end;
 mod serve;
 mod stop;
-mod text;
 mod watch;
 mod words;
 

@@ -8,7 +8,7 @@ use Rattle.cron_serve.specs.Played.{HasWatched}
 use Rattle.cron_serve.specs.Serve.{IsRunOf}
 use Rattle.cron_serve.proofs.PlayLemmas.{few_members, left_by_world, playable, some_members}
 use Rattle.cron_serve.proofs.ServeLemmas.{may_start}
-use Rattle.cron_serve.proofs.VerdictLemmas.{one_taken}
+use Rattle.run_input.proofs.VerdictLemmas.{one_taken}
 use Rattle.cron_serve.proofs.answer.play.Goals as goal
 
 pub play_watched-requires-clause-some : goal.play_watched-requires-clause-some

@@ -1,4 +1,5 @@
-use Rattle.cron_serve.proofs.VerdictLemmas.{one_frame, one_input, one_taken, suits_or_refused}
+use Rattle.run_input.proofs.VerdictLemmas.{one_frame, one_taken}
+use Rattle.cron_serve.proofs.VerdictLemmas.{one_input, suits_or_refused}
 use Rattle.cron_serve.proofs.laws.an_input_has_one_verdict.Goals as goal
 
 pub returns-clause-one_run : goal.returns-clause-one_run

@@ -5,7 +5,7 @@ use Rattle.run_text.specs.Steps.{IfRefused}
 use Rattle.run_text.specs.declared.refusal.RunFault.{RunFault}
 use Rattle.generated_run.specs.Made.{made_text}
 use Rattle.generated_run.proofs.TextLemmas.{text_is_short}
-use Rattle.cron_serve.specs.Input.{IsRefusedAsRun}
+use Rattle.run_input.specs.Input.{IsRefusedAsRun}
 use Rattle.cron_serve.proofs.MadeLemmas.{never_refused}
 use Rattle.cron_serve.proofs.made.play_made.Goals as goal
 

@@ -1,6 +1,6 @@
 use Rattle.std.proofs.Common.{arith}
-use Rattle.cron_serve.proofs.TextLemmas.{passed_more, first_at_fault}
-use Rattle.cron_serve.proofs.text.line_at_fault.Goals as goal
+use Rattle.run_input.proofs.TextLemmas.{passed_more, first_at_fault}
+use Rattle.run_input.proofs.text.line_at_fault.Goals as goal
 use Rattle.run_text.proofs.VariantLemmas.{at_none}
 
 pub overflow_add-number : goal.overflow_add-number

@@ -1,5 +1,5 @@
-use Rattle.cron_serve.proofs.TextLemmas.{texts_of, text_of}
-use Rattle.cron_serve.proofs.text.as_text.Goals as goal
+use Rattle.run_input.proofs.TextLemmas.{texts_of, text_of}
+use Rattle.run_input.proofs.text.as_text.Goals as goal
 
 pub returns-in-Some-clause-lines : goal.returns-in-Some-clause-lines
 returns-in-Some-clause-lines c = texts_of c.args.bytes.now c.in-Some.ensures.is_text

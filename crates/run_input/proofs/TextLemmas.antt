@@ -11,7 +11,7 @@ use Rattle.crontab_text.specs.Blanks.{IsFirstIndex, LacksAny}
 use Rattle.crontab_text.specs.Lines.{lines_of}
 use Rattle.crontab_text.proofs.LineLemmas.{lines_of-newline, lines_of-last}
 use Rattle.job_table.specs.Table.{at_line}
-use Rattle.cron_serve.specs.Text.{IsText, AreTexts, IsNotText, PassesText, BeginsWithNoText}
+use Rattle.run_input.specs.Text.{IsText, AreTexts, IsNotText, PassesText, BeginsWithNoText}
 use Rattle.cron_fields.specs.declared.cause.Cause.TheVariants.{NotText}
 
 -- the byte stands nowhere in the text

@@ -2,7 +2,7 @@ ghost use Rattle.std.specs.Prelude.{◌≤◌, length, IfOk, IfErr};
 ghost use Rattle.run_text.specs.Run.{run_of};
 ghost use Rattle.run_text.specs.Reading.{IsReadFrame};
 ghost use Rattle.run_text.specs.Steps.{IfRefused};
-ghost use Rattle.cron_serve.specs.Input.{IsRunWithTable, IsTakenFrame, IsRefusedAsRun, IsRefusedAsFrame};
+ghost use Rattle.run_input.specs.Input.{IsRunWithTable, IsTakenFrame, IsRefusedAsRun, IsRefusedAsFrame};
 
 use crate::text::as_text;
 use due_set::JobTable;

@@ -3,7 +3,7 @@ ghost use Rattle.std.specs.Prelude.{◌≡◌, ◌⊎◌, ◌∷◌, [], ◌+◌
 ghost use Rattle.crontab_text.specs.Blanks.{IsFirstIndex, LacksAny};
 ghost use Rattle.crontab_text.specs.Lines.{lines_of};
 ghost use Rattle.job_table.specs.Table.{at_line};
-ghost use Rattle.cron_serve.specs.Text.{IsText, AreTexts, IsNotText, PassesText, BeginsWithNoText};
+ghost use Rattle.run_input.specs.Text.{IsText, AreTexts, IsNotText, PassesText, BeginsWithNoText};
 
 use cron_fields::Cause;
 use run_text::Refusal;

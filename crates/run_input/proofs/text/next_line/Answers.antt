@@ -1,7 +1,7 @@
 use Rattle.std.proofs.Common.{◌<◌, length, arith}
 use Rattle.std.proofs.lemmas.Bool.Decides.{nat_tests}
-use Rattle.cron_serve.proofs.TextLemmas.{line_at, only_line}
-use Rattle.cron_serve.proofs.text.next_line.Goals as goal
+use Rattle.run_input.proofs.TextLemmas.{line_at, only_line}
+use Rattle.run_input.proofs.text.next_line.Goals as goal
 
 pub returns-in-Some-clause-line : goal.returns-in-Some-clause-line
 returns-in-Some-clause-line c = line_at c.args.bytes.now c.in-Some.end c.in-Some.ensures.found
