@@ -2,4 +2,5 @@ mod CutLemmas
 mod LineLemmas
 mod PartLemmas
 mod ReadLemmas
-mod SplitLemmas
+pub mod SplitLemmas
+pub mod TextLemmas

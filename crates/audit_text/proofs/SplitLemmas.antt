@@ -36,7 +36,7 @@ of_byte c (d ∷ ds) other is =
     ap (λ l. text_of_lines (begin_with c l)) lines ∙ ap (λ t. c ∷ t) (ap text_of_lines (sym lines) ∙ is)
 
 -- the lines of a text make it, with the newline that it may lack
-lines_back : (text : List ℕ) → text_of_lines (lines_of text) ≡ text ++ missing_newline text
+pub lines_back : (text : List ℕ) → text_of_lines (lines_of text) ≡ text ++ missing_newline text
 unfolding lines_of
 lines_back [] = refl
 lines_back (c ∷ cs) = elim (cases_eq c 10) as (λ _. text_of_lines (lines_of (c ∷ cs)) ≡ (c ∷ cs) ++ missing_newline (c ∷ cs)) [

@@ -1,17 +1,18 @@
-ghost use Rattle.std.specs.Prelude.{◌≡◌, string_bytes, IfOk};
+ghost use Rattle.std.specs.Prelude.{◌≡◌, ◌≤◌, length, string_bytes, IfOk};
 ghost use Rattle.audit_text.specs.Readable.{IsReadText, line_as_read};
 
 use crate::line::cut_first;
 use cron_io::OutOfMemory;
 use std::alloc::Global;
 
-/// Reads bytes as text. A line that isn't UTF-8 is taken as the line `?`.
+/// Reads bytes as text. A line that isn't UTF-8 is taken as the line `?`, so that no text is longer than its bytes.
 ///
 /// # Errors
 ///
 /// Memory ran out.
 pub fn read_text(alloc: Global, bytes: &[u8]) -> Result<String, OutOfMemory>
-    ensures { IfOk result (λ text. IsReadText bytes.now (string_bytes text)) }
+    ensures text { IfOk result (λ text. IsReadText bytes.now (string_bytes text)) }
+    ensures short { IfOk result (λ text. length (string_bytes text) ≤ length bytes.now) }
 {
     let mut text = String::with_capacity(alloc, bytes.len())?;
     let mut rest = bytes;

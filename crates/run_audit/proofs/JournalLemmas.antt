@@ -48,7 +48,7 @@ same_front (z ∷ xs) (w ∷ ys) x y same =
     cc
 
 -- two ways to cut a list at one place are one
-same_cut : {A : Type 0} (one back other behind : List A) → one ++ back ≡ other ++ behind → length one ≡ length other → (one ≡ other) × (back ≡ behind)
+pub same_cut : {A : Type 0} (one back other behind : List A) → one ++ back ≡ other ++ behind → length one ≡ length other → (one ≡ other) × (back ≡ behind)
 same_cut one back other behind same size = (
   sym (take_at one back (length one) refl) ∙ ap (take (length one)) same ∙ take_at other behind (length one) (sym size),
   sym (drop_at one back (length one) refl) ∙ ap (drop (length one)) same ∙ drop_at other behind (length one) (sym size),

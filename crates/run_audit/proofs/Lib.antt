@@ -8,6 +8,7 @@ pub mod LeadLemmas
 pub mod SoFarLemmas
 pub mod JournalLemmas
 pub mod VerdictLemmas
+pub mod OneLemmas
 pub mod BookLemmas
 pub mod LineLemmas
 pub mod ComingLemmas

@@ -14,7 +14,7 @@ use Rattle.run_audit.specs.declared.verdict.Why.{Why}
 use Rattle.run_audit.proofs.JournalLemmas.{lines_less}
 
 -- the lines of a text, and what stands behind them
-record AreSameLines (lines others : List (List ℕ)) (behind rest : List ℕ) : Type 0 where
+pub record AreSameLines (lines others : List (List ℕ)) (behind rest : List ℕ) : Type 0 where
   pub lines_are : lines ≡ others
   pub behind_is : behind ≡ rest
 
@@ -22,7 +22,7 @@ first_line : (line : List ℕ) (lines : List (List ℕ)) (behind : List ℕ) →
 first_line line lines behind =
     append_assoc (line ++ 10 ∷ []) (text_of_lines lines) behind ∙ append_assoc line (10 ∷ []) (text_of_lines lines ++ behind)
 
-same_lines : (lines others : List (List ℕ)) (behind rest : List ℕ) → AllByRecursion LacksNewline lines → AllByRecursion LacksNewline others
+pub same_lines : (lines others : List (List ℕ)) (behind rest : List ℕ) → AllByRecursion LacksNewline lines → AllByRecursion LacksNewline others
     → LacksNewline behind → LacksNewline rest → text_of_lines lines ++ behind ≡ text_of_lines others ++ rest → AreSameLines lines others behind rest
 same_lines [] [] behind rest one two last end same = record { lines_are = refl; behind_is = same }
 same_lines [] (other ∷ others) behind rest one two last end same =

@@ -1,5 +1,6 @@
 //! Laws of what begins a part of a script, and of the lines that can begin a journal. Each is the contract of a function that does nothing.
-ghost use Rattle.std.specs.Prelude.{◌≡◌, ◌++◌, ◌∷◌, [], ℕ, ℤ, List};
+ghost use Rattle.std.specs.Prelude.{◌≡◌, ◌++◌, ◌∷◌, ◌<◌, ◌≤◌, ◌^◌, [], ℕ, ℤ, List, length};
+ghost use Rattle.zone_minutes.specs.Window.{IsWithinLimits};
 ghost use Rattle.due_set.specs.Table.{Table};
 ghost use Rattle.script_text.specs.declared.command.Command.{Command};
 ghost use Rattle.history.specs.Book.{Row};
@@ -10,7 +11,7 @@ ghost use Rattle.script_semantics.specs.Situation.{Situation};
 ghost use Rattle.world_law.specs.Book.{BookState, StandsBehind};
 ghost use Rattle.journal_text.specs.Starts.{IsBookJournal};
 ghost use Rattle.run_audit.specs.Begins.{BeginsPart, BeginsWalk};
-ghost use Rattle.run_audit.specs.Sound.{CanBegin};
+ghost use Rattle.run_audit.specs.Sound.{CanBegin, turns_of};
 ghost use Rattle.run_audit.specs.Verdict.{IsAtFault, IsJournal};
 ghost use Rattle.run_audit.specs.declared.verdict.Why.{Why};
 
@@ -42,12 +43,19 @@ pub fn a_journal_is_judged_line_by_line()
         → CanBegin members table script (lines ++ line ∷ []) → CanBegin members table script lines }
 {}
 
-/// A text has one verdict at most: it is a journal, or one of its lines is the first at fault.
+/// A text has one verdict at most: it is a journal, or one of its lines is the first at fault. Where it has fewer than 2^32 bytes, it is the
+/// journal of one list of turns, or the line is at fault for one reason.
 pub fn a_text_has_one_verdict()
     ensures not_both { (members : ℕ) (table : Table) (script : List Command) (text : List ℕ) (rows : List Row) (number : ℕ) (why : Why)
         → IsJournal members table script text rows → IsAtFault members table script text number why → ⊥ }
     ensures line { (members : ℕ) (table : Table) (script : List Command) (text : List ℕ) (number other : ℕ) (why whether : Why)
         → IsAtFault members table script text number why → IsAtFault members table script text other whether → number ≡ other }
+    ensures turns { (members : ℕ) (table : Table) (script : List Command) (text : List ℕ) (rows others : List Row) → members ≤ 7
+        → IsWithinLimits table.window → length text < 2 ^ 32 → IsJournal members table script text rows → IsJournal members table script text others
+        → turns_of rows ≡ turns_of others }
+    ensures why { (members : ℕ) (table : Table) (script : List Command) (text : List ℕ) (number other : ℕ) (why whether : Why) → members ≤ 7
+        → IsWithinLimits table.window → length text < 2 ^ 32 → IsAtFault members table script text number why
+        → IsAtFault members table script text other whether → why ≡ whether }
 {}
 
 /// A text that is a journal of a run is the journal of the book whose turns it tells: whoever wrote it, it is the text that a program

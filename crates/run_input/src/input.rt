@@ -1,6 +1,6 @@
 ghost use Rattle.std.specs.Prelude.{◌≤◌, length, IfOk, IfErr};
 ghost use Rattle.run_text.specs.Run.{run_of};
-ghost use Rattle.run_text.specs.Reading.{IsReadFrame};
+ghost use Rattle.run_text.specs.Reading.{IsReadFrame, IsReadRun};
 ghost use Rattle.run_text.specs.Steps.{IfRefused};
 ghost use Rattle.run_input.specs.Input.{IsRunWithTable, IsTakenFrame, IsRefusedAsRun, IsRefusedAsFrame};
 
@@ -19,6 +19,7 @@ use std::alloc::Global;
 pub fn take_table(alloc: Global, bytes: &[u8]) -> Result<(RunFile<'_>, JobTable), RunFault>
     requires { length bytes.now ≤ 1_048_576 }
     ensures taken { IfOk result (λ both. IsRunWithTable bytes.now (run_of both.0) both.1) }
+    ensures run { IfOk result (λ both. IsReadRun both.0) }
     ensures refused { IfErr result (λ fault. IfRefused fault (IsRefusedAsRun bytes.now)) }
 {
     let text = as_text(bytes)?;

@@ -2,6 +2,7 @@ use Rattle.std.proofs.Common.{◌≡◌, ◌<◌, ◌++◌, ◌∷◌, [], lengt
 use Rattle.std.proofs.lemmas.Bool.Decides.{nat_tests}
 use Rattle.audit_text.specs.Readable.{line_as_read}
 use Rattle.audit_text.proofs.ReadLemmas.{IsReadSoFar, read_all_of_it, read_ended, read_last, read_nothing}
+use Rattle.audit_text.proofs.TextLemmas.{text_is_short}
 use Rattle.audit_text.proofs.readable.read_text.Goals as goal
 
 pub lines-init : goal.lines-init
@@ -24,5 +25,8 @@ lines-preserved c =
     subst (IsReadSoFar c.args.bytes.now c.in-Some.after.now) (sym first)
     (read_last c.args.bytes.now c.lines.rest.now (string_bytes c.lines.text) c.in-Some.line.now c.in-Some.after.now c.lines.invariant c.in-Some.ensures.line no_longer)
 
-pub returns : goal.returns
-returns c = read_all_of_it c.args.bytes.now c.lines.rest.now (string_bytes c.lines.text) c.lines.invariant c.in_default.ensures.none
+pub returns-clause-text : goal.returns-clause-text
+returns-clause-text c = read_all_of_it c.args.bytes.now c.lines.rest.now (string_bytes c.lines.text) c.lines.invariant c.in_default.ensures.none
+
+pub returns-clause-short : goal.returns-clause-short
+returns-clause-short c = text_is_short c.args.bytes.now (string_bytes c.lines.text) (read_all_of_it c.args.bytes.now c.lines.rest.now (string_bytes c.lines.text) c.lines.invariant c.in_default.ensures.none)
