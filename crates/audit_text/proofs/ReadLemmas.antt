@@ -91,7 +91,7 @@ read_as_none line none = by (is_utf8 line) refl
 
 -- ---- bytes, line by line
 
-missing_ended : (front : List ℕ) → missing_newline (front ++ 10 ∷ []) ≡ []
+pub missing_ended : (front : List ℕ) → missing_newline (front ++ 10 ∷ []) ≡ []
 missing_ended [] = refl
 missing_ended (c ∷ []) = refl
 missing_ended (c ∷ d ∷ ds) = missing_ended (d ∷ ds)
