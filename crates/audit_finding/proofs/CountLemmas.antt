@@ -10,7 +10,7 @@ use Rattle.run_audit.specs.Verdict.{IsAtFault}
 use Rattle.run_audit.specs.declared.verdict.Why.{Why}
 
 -- no text has more lines than bytes
-few_lines : (lines : List (List ℕ)) → length lines ≤ length (text_of_lines lines)
+pub few_lines : (lines : List (List ℕ)) → length lines ≤ length (text_of_lines lines)
 few_lines [] = omega arith
 few_lines (line ∷ lines) =
     let few = few_lines lines in

@@ -1,3 +1,4 @@
 pub mod CountLemmas
 pub mod DifferenceLemmas
 pub mod OneLemmas
+pub mod ReportLemmas
