@@ -16,6 +16,7 @@ use Rattle.cron_serve.specs.Serve.{IsRefused, IsTextOf}
 use Rattle.cron_serve.specs.Written.{EndsWriting}
 use Rattle.cron_serve.specs.declared.words.Output.{Output}
 use Rattle.cron_serve.specs.declared.words.Output.TheVariants.{Report, DueList, Check, Summary}
+use Rattle.cron_serve.specs.declared.words.Request.TheVariants.{Text}
 use Rattle.cron_serve.specs.Stop.{StopsFor, refusal_of, status_of}
 use Rattle.cron_serve.specs.declared.run_end.RunEnd.{RunEnd}
 use Rattle.cron_serve.proofs.VerdictLemmas.{one_input, suits_or_refused}
@@ -48,7 +49,7 @@ refused_input output source source' bytes refusal told (of, inr other) =
 
 -- an input that suits stops the program only for want of memory, where no read failed
 stops_for_memory : (output : Output) (source source' : SourceView) (stop : Stop) (status : ℕ) (bytes : List ℕ)
-    → status ≡ status_of stop → StopsFor output source source' stop → source.left ≡ Some bytes → Suits output bytes → ¬ Rose source.faults source'.faults
+    → status ≡ status_of stop → StopsFor (Text output) source source' stop → source.left ≡ Some bytes → Suits output bytes → ¬ Rose source.faults source'.faults
     → (status ≡ 0) ⊎ (status ≡ 5)
 stops_for_memory output source source' Usage status bytes is why told suits quiet = absurd why
 stops_for_memory output source source' (Refused refusal) status bytes is why told suits quiet =
@@ -58,7 +59,7 @@ stops_for_memory output source source' OutOfMemory status bytes is why told suit
 
 -- a stop is a refusal or want of memory, where no read failed
 stops_refused : (output : Output) (source source' : SourceView) (stop : Stop) (status : ℕ) (refusal : Option Refusal) (bytes : List ℕ)
-    → status ≡ status_of stop → refusal ≡ refusal_of stop → StopsFor output source source' stop → source.left ≡ Some bytes → ¬ Rose source.faults source'.faults
+    → status ≡ status_of stop → refusal ≡ refusal_of stop → StopsFor (Text output) source source' stop → source.left ≡ Some bytes → ¬ Rose source.faults source'.faults
     → IsSomeAnd refusal (IsRefusedInput output bytes) ⊎ (status ≡ 5)
 stops_refused output source source' Usage status refusal bytes is given why told quiet = absurd why
 stops_refused output source source' (Refused found) status refusal bytes is given why told quiet =
@@ -68,7 +69,7 @@ stops_refused output source source' OutOfMemory status refusal bytes is given wh
 
 -- a stop is this refusal, where the input is refused for it
 stops_with : (output : Output) (source source' : SourceView) (stop : Stop) (status : ℕ) (refusal : Option Refusal) (bytes : List ℕ) (found : Refusal)
-    → status ≡ status_of stop → refusal ≡ refusal_of stop → StopsFor output source source' stop → source.left ≡ Some bytes
+    → status ≡ status_of stop → refusal ≡ refusal_of stop → StopsFor (Text output) source source' stop → source.left ≡ Some bytes
     → IsRefusedInput output bytes found → ¬ Rose source.faults source'.faults → (refusal ≡ Some found) ⊎ (status ≡ 5)
 stops_with output source source' Usage status refusal bytes found is given why told refused quiet = absurd why
 stops_with output source source' (Refused other) status refusal bytes found is given why told refused quiet =
@@ -77,7 +78,7 @@ stops_with output source source' ReadFault status refusal bytes found is given w
 stops_with output source source' OutOfMemory status refusal bytes found is given why told refused quiet = inr is
 
 pub completes_stopped : (output : Output) (source source' : SourceView) (sink : SinkView) (stop : Stop) (end : RunEnd) → IsOfInput output → end.status ≡ status_of stop
-    → end.refusal ≡ refusal_of stop → StopsFor output source source' stop → Completes output source source' sink sink end
+    → end.refusal ≡ refusal_of stop → StopsFor (Text output) source source' stop → Completes output source source' sink sink end
 completes_stopped output source source' sink stop end of is given why = record {
   taken = λ bytes told suits quiet kept. stops_for_memory output source source' stop end.status bytes is why told suits quiet;
   refused = λ bytes found told refused quiet. stops_with output source source' stop end.status end.refusal bytes found is given why told refused quiet;

@@ -1,3 +1,5 @@
+pub mod AuditLemmas
+pub mod AuditStatusLemmas
 pub mod CompleteLemmas
 pub mod MadeEndLemmas
 pub mod MadeLemmas

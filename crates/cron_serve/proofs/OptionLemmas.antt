@@ -50,6 +50,7 @@ letters_of word = get_or word 2 0 + get_or word 3 0
 abbrev letters : Choice → ℕ
 letters choice.List = 213
 letters choice.Check = 203
+letters choice.Audit = 214
 letters choice.Journal = 217
 letters choice.Watch = 216
 letters (choice.Make s) = 206
@@ -61,6 +62,7 @@ first_letters word ps p words rest pa pw = ap (λ (l : List (List ℕ)). letters
 letters_begin : (a : Choice) (words rest : List (List ℕ)) → BeginsWith a words rest → letters_of (get_or words 0 []) ≡ letters a
 letters_begin choice.List words rest (p, pa, pw) = first_letters (codes "--list") [] p words rest pa pw
 letters_begin choice.Check words rest (p, pa, pw) = first_letters (codes "--check") [] p words rest pa pw
+letters_begin choice.Audit words rest (p, pa, pw) = first_letters (codes "--audit") [] p words rest pa pw
 letters_begin choice.Journal words rest (p, pa, pw) = first_letters (codes "--journal") [] p words rest pa pw
 letters_begin choice.Watch words rest (p, pa, pw) = first_letters (codes "--watch") [] p words rest pa pw
 letters_begin (choice.Make s) words rest (p, (l, inl pa), pw) = first_letters (codes "--make") (decimal s ∷ []) p words rest pa pw
@@ -71,30 +73,42 @@ letters_begin (choice.Lanes n) words rest (p, (l, m, inr pa), pw) = first_letter
 same_option : (a b : Choice) (words rest others : List (List ℕ)) → letters a ≡ letters b → BeginsWith a words rest → BeginsWith b words others → (a ≡ b) × (rest ≡ others)
 same_option choice.List choice.List words rest others e (p, pa, pw) (q, qa, qw) = (refl, (same_head _ _ _ _ p q words rest others pa pw qa qw).1)
 same_option choice.List choice.Check words rest others e first second = absurd (let apart : 213 ≡ 203 = e in omega (arith, apart))
+same_option choice.List choice.Audit words rest others e first second = absurd (let apart : 213 ≡ 214 = e in omega (arith, apart))
 same_option choice.List choice.Journal words rest others e first second = absurd (let apart : 213 ≡ 217 = e in omega (arith, apart))
 same_option choice.List choice.Watch words rest others e first second = absurd (let apart : 213 ≡ 216 = e in omega (arith, apart))
 same_option choice.List (choice.Make s') words rest others e first second = absurd (let apart : 213 ≡ 206 = e in omega (arith, apart))
 same_option choice.List (choice.Lanes n') words rest others e first second = absurd (let apart : 213 ≡ 205 = e in omega (arith, apart))
 same_option choice.Check choice.List words rest others e first second = absurd (let apart : 203 ≡ 213 = e in omega (arith, apart))
 same_option choice.Check choice.Check words rest others e (p, pa, pw) (q, qa, qw) = (refl, (same_head _ _ _ _ p q words rest others pa pw qa qw).1)
+same_option choice.Check choice.Audit words rest others e first second = absurd (let apart : 203 ≡ 214 = e in omega (arith, apart))
 same_option choice.Check choice.Journal words rest others e first second = absurd (let apart : 203 ≡ 217 = e in omega (arith, apart))
 same_option choice.Check choice.Watch words rest others e first second = absurd (let apart : 203 ≡ 216 = e in omega (arith, apart))
 same_option choice.Check (choice.Make s') words rest others e first second = absurd (let apart : 203 ≡ 206 = e in omega (arith, apart))
 same_option choice.Check (choice.Lanes n') words rest others e first second = absurd (let apart : 203 ≡ 205 = e in omega (arith, apart))
+same_option choice.Audit choice.List words rest others e first second = absurd (let apart : 214 ≡ 213 = e in omega (arith, apart))
+same_option choice.Audit choice.Check words rest others e first second = absurd (let apart : 214 ≡ 203 = e in omega (arith, apart))
+same_option choice.Audit choice.Audit words rest others e (p, pa, pw) (q, qa, qw) = (refl, (same_head _ _ _ _ p q words rest others pa pw qa qw).1)
+same_option choice.Audit choice.Journal words rest others e first second = absurd (let apart : 214 ≡ 217 = e in omega (arith, apart))
+same_option choice.Audit choice.Watch words rest others e first second = absurd (let apart : 214 ≡ 216 = e in omega (arith, apart))
+same_option choice.Audit (choice.Make s') words rest others e first second = absurd (let apart : 214 ≡ 206 = e in omega (arith, apart))
+same_option choice.Audit (choice.Lanes n') words rest others e first second = absurd (let apart : 214 ≡ 205 = e in omega (arith, apart))
 same_option choice.Journal choice.List words rest others e first second = absurd (let apart : 217 ≡ 213 = e in omega (arith, apart))
 same_option choice.Journal choice.Check words rest others e first second = absurd (let apart : 217 ≡ 203 = e in omega (arith, apart))
+same_option choice.Journal choice.Audit words rest others e first second = absurd (let apart : 217 ≡ 214 = e in omega (arith, apart))
 same_option choice.Journal choice.Journal words rest others e (p, pa, pw) (q, qa, qw) = (refl, (same_head _ _ _ _ p q words rest others pa pw qa qw).1)
 same_option choice.Journal choice.Watch words rest others e first second = absurd (let apart : 217 ≡ 216 = e in omega (arith, apart))
 same_option choice.Journal (choice.Make s') words rest others e first second = absurd (let apart : 217 ≡ 206 = e in omega (arith, apart))
 same_option choice.Journal (choice.Lanes n') words rest others e first second = absurd (let apart : 217 ≡ 205 = e in omega (arith, apart))
 same_option choice.Watch choice.List words rest others e first second = absurd (let apart : 216 ≡ 213 = e in omega (arith, apart))
 same_option choice.Watch choice.Check words rest others e first second = absurd (let apart : 216 ≡ 203 = e in omega (arith, apart))
+same_option choice.Watch choice.Audit words rest others e first second = absurd (let apart : 216 ≡ 214 = e in omega (arith, apart))
 same_option choice.Watch choice.Journal words rest others e first second = absurd (let apart : 216 ≡ 217 = e in omega (arith, apart))
 same_option choice.Watch choice.Watch words rest others e (p, pa, pw) (q, qa, qw) = (refl, (same_head _ _ _ _ p q words rest others pa pw qa qw).1)
 same_option choice.Watch (choice.Make s') words rest others e first second = absurd (let apart : 216 ≡ 206 = e in omega (arith, apart))
 same_option choice.Watch (choice.Lanes n') words rest others e first second = absurd (let apart : 216 ≡ 205 = e in omega (arith, apart))
 same_option (choice.Make s) choice.List words rest others e first second = absurd (let apart : 206 ≡ 213 = e in omega (arith, apart))
 same_option (choice.Make s) choice.Check words rest others e first second = absurd (let apart : 206 ≡ 203 = e in omega (arith, apart))
+same_option (choice.Make s) choice.Audit words rest others e first second = absurd (let apart : 206 ≡ 214 = e in omega (arith, apart))
 same_option (choice.Make s) choice.Journal words rest others e first second = absurd (let apart : 206 ≡ 217 = e in omega (arith, apart))
 same_option (choice.Make s) choice.Watch words rest others e first second = absurd (let apart : 206 ≡ 216 = e in omega (arith, apart))
 same_option (choice.Make s) (choice.Make s') words rest others e (p, (l, pa), pw) (q, (l', qa), qw) =
@@ -102,6 +116,7 @@ same_option (choice.Make s) (choice.Make s') words rest others e (p, (l, pa), pw
 same_option (choice.Make s) (choice.Lanes n') words rest others e first second = absurd (let apart : 206 ≡ 205 = e in omega (arith, apart))
 same_option (choice.Lanes n) choice.List words rest others e first second = absurd (let apart : 205 ≡ 213 = e in omega (arith, apart))
 same_option (choice.Lanes n) choice.Check words rest others e first second = absurd (let apart : 205 ≡ 203 = e in omega (arith, apart))
+same_option (choice.Lanes n) choice.Audit words rest others e first second = absurd (let apart : 205 ≡ 214 = e in omega (arith, apart))
 same_option (choice.Lanes n) choice.Journal words rest others e first second = absurd (let apart : 205 ≡ 217 = e in omega (arith, apart))
 same_option (choice.Lanes n) choice.Watch words rest others e first second = absurd (let apart : 205 ≡ 216 = e in omega (arith, apart))
 same_option (choice.Lanes n) (choice.Make s') words rest others e first second = absurd (let apart : 205 ≡ 206 = e in omega (arith, apart))
@@ -123,6 +138,7 @@ word_there a ps p words others pa pw none =
 pub begins_somewhere : (a : Choice) (words others : List (List ℕ)) → BeginsWith a words others → words ≢ []
 begins_somewhere choice.List words others (p, pa, pw) none = word_there _ _ p words others pa pw none
 begins_somewhere choice.Check words others (p, pa, pw) none = word_there _ _ p words others pa pw none
+begins_somewhere choice.Audit words others (p, pa, pw) none = word_there _ _ p words others pa pw none
 begins_somewhere choice.Journal words others (p, pa, pw) none = word_there _ _ p words others pa pw none
 begins_somewhere choice.Watch words others (p, pa, pw) none = word_there _ _ p words others pa pw none
 begins_somewhere (choice.Make s) words others (p, (l, inl pa), pw) none = word_there _ _ p words others pa pw none

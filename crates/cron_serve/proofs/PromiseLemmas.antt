@@ -13,9 +13,11 @@ use Rattle.cron_serve.specs.Ends.{Ends}
 use Rattle.cron_serve.specs.Program.{EndsProgram}
 use Rattle.cron_serve.specs.Promise.{HasEachDue, HasOnlyDue, ReportsInput, ReportsLaunches}
 use Rattle.cron_serve.specs.Serve.{IsReportOf, IsRunOf, WritesText}
+use Rattle.cron_serve.specs.Served.{EndsFor}
 use Rattle.cron_serve.specs.declared.run_end.RunEnd.{RunEnd}
-use Rattle.cron_serve.specs.declared.words.Output.{Output}
 use Rattle.cron_serve.specs.declared.words.Output.TheVariants.{Report}
+use Rattle.cron_serve.specs.declared.words.Request.{Request}
+use Rattle.cron_serve.specs.declared.words.Request.TheVariants.{Text}
 use Rattle.cron_serve.proofs.WholeLemmas.{all_launched, backed, each_ended, each_within_grace, fitting}
 
 module _ (bytes : List ℕ) (table : Table) (book : BookState) (nodes : List (Node MemDisk)) (run : IsRunOf bytes table book nodes) where
@@ -61,14 +63,13 @@ of_text source source' sink sink' book nodes (text, is, gained) = record {
   reports = of_report is.bytes book nodes text is.is;
 }
 
-pub reports_end : (source source' : SourceView) (sink sink' : SinkView) (end : RunEnd) (output : Output) → output ≡ Report false false
-    → Ends output source source' sink sink' end → end.status ≡ 0 → ReportsInput source source' sink sink'
-reports_end source source' sink sink' end output report ends zero =
-    let written : WritesText (Report false false) source source' sink sink' end.book end.nodes.items =
-    subst (λ (o : Output). WritesText o source source' sink sink' end.book end.nodes.items) report (ends.text zero) in
-    of_text source source' sink sink' end.book end.nodes.items written
+pub reports_end : (source source' : SourceView) (sink sink' : SinkView) (end : RunEnd) (request : Request) → request ≡ Text (Report false false)
+    → EndsFor request source source' sink sink' end → end.status ≡ 0 → ReportsInput source source' sink sink'
+reports_end source source' sink sink' end request report ends zero =
+    let ended : Ends (Report false false) source source' sink sink' end = subst (λ (r : Request). EndsFor r source source' sink sink' end) report ends in
+    of_text source source' sink sink' end.book end.nodes.items (ended.text zero)
 
 pub reports_input : (source source' : SourceView) (sink sink' notes notes' : SinkView) (status : ℕ)
-    → EndsProgram (Report false false) source source' sink sink' notes notes' status → status ≡ 0 → ReportsInput source source' sink sink'
+    → EndsProgram (Text (Report false false)) source source' sink sink' notes notes' status → status ≡ 0 → ReportsInput source source' sink sink'
 reports_input source source' sink sink' notes notes' status ends zero =
-    reports_end source source' sink sink' ends.end (Report false false) refl ends.ends (sym ends.status_is ∙ zero)
+    reports_end source source' sink sink' ends.end (Text (Report false false)) refl ends.ends (sym ends.status_is ∙ zero)

@@ -29,15 +29,18 @@ use Rattle.due_list.specs.Listing.{WritesListing}
 use Rattle.due_list.specs.declared.fault.ListFault.{ListFault}
 use Rattle.due_list.specs.declared.fault.ListFault.TheVariants as listing
 use Rattle.cron_serve.specs.Complete.{Completes}
-use Rattle.cron_serve.specs.Ends.{Ends, EndsServing, EndsUnread}
-use Rattle.cron_serve.specs.Serve.{StandsIfAsked, IsGiven, IsRefused, IsReportOf, IsRunOf, IsSummaryOf, IsTextOf, LeavesNoRun}
+use Rattle.cron_serve.specs.Ends.{Ends, EndsUnread}
+use Rattle.cron_serve.specs.Served.{CompletesFor, EndsFor, EndsServing}
+use Rattle.cron_serve.specs.Serve.{StandsIfAsked, IsGiven, IsReportOf, IsRunOf, IsSummaryOf, IsTextOf, LeavesNoRun}
 use Rattle.cron_serve.specs.Input.{IsOfInput, IsRefusedBytes}
 use Rattle.cron_serve.specs.Played.{HasWatched}
-use Rattle.cron_serve.specs.Stop.{StopsFor, refusal_of, status_of, stop_of_run}
+use Rattle.cron_serve.specs.Stop.{IsRefusedFor, StopsFor, refusal_of, status_of, stop_of_run}
 use Rattle.cron_serve.specs.Watch.{IsBookWatch, watch_text}
 use Rattle.cron_serve.specs.Written.{EndsRunText, EndsWriting, WritesAtStatus, WritesTextOf, status_of_listing, status_of_writing}
 use Rattle.cron_serve.specs.declared.words.Output.{Output}
 use Rattle.cron_serve.specs.declared.words.Output.TheVariants.{Report, DueList, Check, Summary}
+use Rattle.cron_serve.specs.declared.words.Request.{Request}
+use Rattle.cron_serve.specs.declared.words.Request.TheVariants.{Text}
 use Rattle.run_text.specs.Steps.{IfRefused}
 use Rattle.run_text.specs.declared.refusal.Refusal.{Refusal}
 use Rattle.run_text.specs.declared.refusal.RunFault.{RunFault}
@@ -49,11 +52,11 @@ use Rattle.cron_serve.specs.declared.stop.Stop.TheVariants.{Usage, Refused, Read
 -- the exit of a `?` with an input that is refused, or for want of memory
 pub stops_for_input : {T : Type 0} (output : Output) (source source' : SourceView) (bytes : List ℕ) (fault : RunFault) (result : Result T Stop) → IsOfInput output
     → IsErrAnd result (λ stop. stop ≡ stop_of_run fault) → IsReadToEnd source source' bytes → length bytes ≤ 1_048_576
-    → IfRefused fault (IsRefusedBytes output bytes) → IfErr result (StopsFor output source source')
+    → IfRefused fault (IsRefusedBytes output bytes) → IfErr result (StopsFor (Text output) source source')
 stops_for_input output source source' bytes fault (Ok value) of is read short why = tt
 stops_for_input output source source' bytes (run.Refused refusal) (Err stop) of is read short why =
-    subst (StopsFor output source source') (sym is) (of, inr (record { bytes = bytes; read = read; short = short; refused = why }))
-stops_for_input output source source' bytes run.OutOfMemory (Err stop) of is read short why = subst (StopsFor output source source') (sym is) tt
+    subst (StopsFor (Text output) source source') (sym is) (of, inr (record { bytes = bytes; read = read; short = short; refused = why }))
+stops_for_input output source source' bytes run.OutOfMemory (Err stop) of is read short why = subst (StopsFor (Text output) source source') (sym is) tt
 
 -- what was written whole is a front of itself
 prefix_of_whole : (old new : SinkView) (text : List ℕ) → HasGained old new text → HasGainedPrefix old new text
@@ -264,27 +267,27 @@ pub none_read : (source : SourceView) → HasReadOn source source
 none_read source = record { taken = ([], none_consumed source.left); later = omega arith }
 
 -- the refusal that a stop hands on
-refused_by : (output : Output) (source source' : SourceView) (stop : Stop) (refusal : Option Refusal) → refusal ≡ refusal_of stop
-    → StopsFor output source source' stop → status_of stop ≡ 2 → IsSomeAnd refusal (IsRefused output source source')
-refused_by output source source' Usage refusal is why two = absurd (omega arith)
-refused_by output source source' (Refused given) refusal is why two = subst (λ (r : Option Refusal). IsSomeAnd r (IsRefused output source source')) (sym is) why
-refused_by output source source' ReadFault refusal is why two = absurd (omega arith)
-refused_by output source source' OutOfMemory refusal is why two = absurd (omega arith)
+pub refused_by : (request : Request) (source source' : SourceView) (stop : Stop) (refusal : Option Refusal) → refusal ≡ refusal_of stop
+    → StopsFor request source source' stop → status_of stop ≡ 2 → IsSomeAnd refusal (IsRefusedFor request source source')
+refused_by request source source' Usage refusal is why two = absurd (omega arith)
+refused_by request source source' (Refused given) refusal is why two = subst (λ (r : Option Refusal). IsSomeAnd r (IsRefusedFor request source source')) (sym is) why
+refused_by request source source' ReadFault refusal is why two = absurd (omega arith)
+refused_by request source source' OutOfMemory refusal is why two = absurd (omega arith)
 
-some_refused : (stop : Stop) → IsSome (refusal_of stop) ↔ (status_of stop ≡ 2)
+pub some_refused : (stop : Stop) → IsSome (refusal_of stop) ↔ (status_of stop ≡ 2)
 some_refused Usage = (λ some. absurd (cc), λ two. absurd (omega arith))
 some_refused (Refused given) = (λ some. refl, λ two. refl)
 some_refused ReadFault = (λ some. absurd (cc), λ two. absurd (omega arith))
 some_refused OutOfMemory = (λ some. absurd (cc), λ two. absurd (omega arith))
 
-rose_by : (output : Output) (source source' : SourceView) (stop : Stop) → StopsFor output source source' stop → status_of stop ≡ 3
+pub rose_by : (request : Request) (source source' : SourceView) (stop : Stop) → StopsFor request source source' stop → status_of stop ≡ 3
     → Rose source.faults source'.faults
-rose_by output source source' Usage why three = absurd (omega arith)
-rose_by output source source' (Refused given) why three = absurd (omega arith)
-rose_by output source source' ReadFault why three = why
-rose_by output source source' OutOfMemory why three = absurd (omega arith)
+rose_by request source source' Usage why three = absurd (omega arith)
+rose_by request source source' (Refused given) why three = absurd (omega arith)
+rose_by request source source' ReadFault why three = why
+rose_by request source source' OutOfMemory why three = absurd (omega arith)
 
-stop_statuses : (stop : Stop) → (1 ≤ status_of stop) × (status_of stop ≤ 5) × (status_of stop ≢ 4)
+pub stop_statuses : (stop : Stop) → (1 ≤ status_of stop) × (status_of stop ≤ 5) × (status_of stop ≢ 4)
 stop_statuses Usage = (omega arith, omega arith, λ four. omega arith)
 stop_statuses (Refused given) = (omega arith, omega arith, λ four. omega arith)
 stop_statuses ReadFault = (omega arith, omega arith, λ four. omega arith)
@@ -298,7 +301,7 @@ pub record EndsStopped (stop : Stop) (end : RunEnd) : Type 0 where
 
 -- a stop leaves the sink as it was
 pub ends_stopped : (output : Output) (source source' : SourceView) (sink : SinkView) (stop : Stop) (end : RunEnd) → EndsStopped stop end
-    → HasReadOn source source' → StopsFor output source source' stop → Ends output source source' sink sink end
+    → HasReadOn source source' → StopsFor (Text output) source source' stop → Ends output source source' sink sink end
 ends_stopped output source source' sink stop end e read_on why =
     let is = e.status in
     let bounds = stop_statuses stop in
@@ -307,12 +310,12 @@ ends_stopped output source source' sink stop end e read_on why =
     let other = bounds.2 in
     record {
       text = λ none. absurd (omega arith);
-      refused = λ two. refused_by output source source' stop end.refusal e.refusal why (omega arith);
+      refused = λ two. refused_by (Text output) source source' stop end.refusal e.refusal why (omega arith);
       refusal = (
         λ some. is ∙ (some_refused stop).0 (subst (λ (r : Option Refusal). IsSome r) e.refusal some),
         λ two. subst (λ (r : Option Refusal). IsSome r) (sym e.refusal) ((some_refused stop).1 (sym is ∙ two)),
       );
-      read_fault = λ three. rose_by output source source' stop why (omega arith);
+      read_fault = λ three. rose_by (Text output) source source' stop why (omega arith);
       write_fault = λ four. absurd (other (omega arith));
       front = λ four. absurd (other (omega arith));
       memory = λ five. inl (record { unwritten = refl; no_run = e.no_run });
@@ -331,7 +334,7 @@ ends_unread source sink end e = record { unread = refl; unwritten = refl; no_ref
 -- the end of a run that was made, over any source: nothing of it was read
 pub serving_made : (output : Output) (source : SourceView) (reliable : Type 0) (sink sink' : SinkView) (end : RunEnd) → Ends output source source sink sink' end
     → Completes output source source sink sink' end → (end.status ≡ 0) ⊎ (end.status ≡ 4) ⊎ (end.status ≡ 5)
-    → EndsServing output source source reliable reliable sink sink' end
+    → EndsServing (Text output) source source reliable reliable sink sink' end
 serving_made output source reliable sink sink' end ends complete statuses = record {
   ends = ends;
   complete = complete;
@@ -347,21 +350,22 @@ not_read_fault (Refused given) other three = absurd (omega arith)
 not_read_fault ReadFault other three = other refl
 not_read_fault OutOfMemory other three = absurd (omega arith)
 
--- words that ask for a text are not at fault
-not_usage : (output : Output) (source source' : SourceView) (stop : Stop) → StopsFor output source source' stop → status_of stop ≢ 1
-not_usage output source source' Usage why one = why
-not_usage output source source' (Refused given) why one = absurd (omega arith)
-not_usage output source source' ReadFault why one = absurd (omega arith)
-not_usage output source source' OutOfMemory why one = absurd (omega arith)
+-- words that ask for something are not at fault
+not_usage : (request : Request) (source source' : SourceView) (stop : Stop) → StopsFor request source source' stop → status_of stop ≢ 1
+not_usage request source source' Usage why one = why
+not_usage request source source' (Refused given) why one = absurd (omega arith)
+not_usage request source source' ReadFault why one = absurd (omega arith)
+not_usage request source source' OutOfMemory why one = absurd (omega arith)
 
 -- the end at a stop, once the words ask for this
-pub serving_stopped : (output : Output) (source source' : SourceView) (reliable reliable' : Type 0) (sink : SinkView) (stop : Stop) (end : RunEnd) → EndsStopped stop end
-    → Completes output source source' sink sink end → HasReadOn source source' → StopsFor output source source' stop → (reliable → ¬ (stop ≡ ReadFault))
-    → (reliable → StaysReliable source source' reliable') → EndsServing output source source' reliable reliable' sink sink end
-serving_stopped output source source' reliable reliable' sink stop end e complete read_on why other lasting = record {
-  ends = ends_stopped output source source' sink stop end e read_on why;
+pub serving_stopped : (request : Request) (source source' : SourceView) (reliable reliable' : Type 0) (sink : SinkView) (stop : Stop) (end : RunEnd)
+    → EndsStopped stop end → EndsFor request source source' sink sink end → CompletesFor request source source' sink sink end
+    → StopsFor request source source' stop → (reliable → ¬ (stop ≡ ReadFault))
+    → (reliable → StaysReliable source source' reliable') → EndsServing request source source' reliable reliable' sink sink end
+serving_stopped request source source' reliable reliable' sink stop end e ends complete why other lasting = record {
+  ends = ends;
   complete = complete;
-  words = λ one. not_usage output source source' stop why (sym e.status ∙ one);
+  words = λ one. not_usage request source source' stop why (sym e.status ∙ one);
   no_read_fault = λ sure three. not_read_fault stop (other sure) (sym e.status ∙ three);
   lasting = lasting;
 }

@@ -12,28 +12,27 @@ use Rattle.cron_serve.specs.Program.{EndsProgram}
 use Rattle.cron_serve.specs.Serve.{IsNoted, IsRefused, WritesSome, WritesText, note_text, refusal_note, status_note}
 use Rattle.cron_serve.specs.declared.words.Output.{Output}
 use Rattle.cron_serve.specs.declared.words.Output.TheVariants.{Summary}
+use Rattle.cron_serve.specs.declared.words.Request.TheVariants.{Text}
 
 -- the refusal that an end has, and its note
-refused_by : (output : Output) (source source' : SourceView) (notes notes' : SinkView) (status : ℕ) (refusal : Option Refusal)
-    → IsSomeAnd refusal (IsRefused output source source') → IsNoted notes notes' (note_text status refusal)
-    → (why : Refusal) × IsRefused output source source' why × IsNoted notes notes' (refusal_note why)
-refused_by output source source' notes notes' status None why note = absurd why
-refused_by output source source' notes notes' status (Some refusal) why note = (refusal, why, note)
+pub refused_by : (Why : Refusal → Type 0) (notes notes' : SinkView) (status : ℕ) (refusal : Option Refusal) → IsSomeAnd refusal Why
+    → IsNoted notes notes' (note_text status refusal) → (why : Refusal) × Why why × IsNoted notes notes' (refusal_note why)
+refused_by Why notes notes' status None why note = absurd why
+refused_by Why notes notes' status (Some refusal) why note = (refusal, why, note)
 
 -- without a refusal the note is that of the status
-note_of_status : (notes notes' : SinkView) (status : ℕ) (refusal : Option Refusal) → IsSome refusal ↔ (status ≡ 2) → status ≢ 2
+pub note_of_status : (notes notes' : SinkView) (status : ℕ) (refusal : Option Refusal) → IsSome refusal ↔ (status ≡ 2) → status ≢ 2
     → IsNoted notes notes' (note_text status refusal) → IsNoted notes notes' (status_note status)
 note_of_status notes notes' status None is other note = note
 note_of_status notes notes' status (Some refusal) is other note = absurd (other (is.0 refl))
 
 -- a refusal comes at status 2 alone
-at_refusal : (output : Output) (bytes : List ℕ) (status : ℕ) (refusal : Option Refusal) → IsSome refusal ↔ (status ≡ 2)
-    → IsSomeAnd refusal (IsRefusedInput output bytes) → status ≡ 2
-at_refusal output bytes status None is why = absurd why
-at_refusal output bytes status (Some refusal) is why = is.0 refl
+pub at_refusal : (Why : Refusal → Type 0) (status : ℕ) (refusal : Option Refusal) → IsSome refusal ↔ (status ≡ 2) → IsSomeAnd refusal Why → status ≡ 2
+at_refusal Why status None is why = absurd why
+at_refusal Why status (Some refusal) is why = is.0 refl
 
 module _ (output : Output) (source source' : SourceView) (sink sink' notes notes' : SinkView) (status : ℕ)
-    (ends : EndsProgram output source source' sink sink' notes notes' status) where
+    (ends : EndsProgram (Text output) source source' sink sink' notes notes' status) where
   -- the status of the end
   at : (other : ℕ) → status ≡ other → ends.end.status ≡ other
   at other is = sym ends.status_is ∙ is
@@ -44,7 +43,7 @@ module _ (output : Output) (source source' : SourceView) (sink sink' notes notes
   pub refused : status ≡ 2 → (sink' ≡ sink) × (refusal : Refusal) × IsRefused output source source' refusal × IsNoted notes notes' (refusal_note refusal)
   refused two =
       let is = at 2 two in
-      let (why, refused, note) = refused_by output source source' notes notes' ends.end.status ends.end.refusal (ends.ends.refused is) ends.note in
+      let (why, refused, note) = refused_by (IsRefused output source source') notes notes' ends.end.status ends.end.refusal (ends.ends.refused is) ends.note in
       ((ends.ends.nothing (omega (arith, is)) (omega (arith, is))).unwritten, why, refused, note)
 
   pub read_fault : status ≡ 3 → (sink' ≡ sink) × Rose source.faults source'.faults
@@ -83,13 +82,13 @@ module _ (output : Output) (source source' : SourceView) (sink sink' notes notes
   pub refusal_decided : (bytes : List ℕ) → source.left ≡ Some bytes → (Suits output bytes → ⊥) → ¬ Rose source.faults source'.faults
       → (status ≡ 2) ⊎ (status ≡ 5)
   refusal_decided bytes told other read = elim (ends.complete.others bytes told other read) [
-    | inl why ↦ inl (ends.status_is ∙ at_refusal output bytes ends.end.status ends.end.refusal ends.ends.refusal why)
+    | inl why ↦ inl (ends.status_is ∙ at_refusal (IsRefusedInput output bytes) ends.end.status ends.end.refusal ends.ends.refusal why)
     | inr five ↦ inr (ends.status_is ∙ five)
   ]
 
 -- the summary of a made run is written, or memory runs out
 pub made_decided : (seed : ℕ) (source source' : SourceView) (sink sink' notes notes' : SinkView) (status : ℕ)
-    → EndsProgram (Summary seed) source source' sink sink' notes notes' status → ¬ Rose sink.faults sink'.faults → (status ≡ 0) ⊎ (status ≡ 5)
+    → EndsProgram (Text (Summary seed)) source source' sink sink' notes notes' status → ¬ Rose sink.faults sink'.faults → (status ≡ 0) ⊎ (status ≡ 5)
 made_decided seed source source' sink sink' notes notes' status ends quiet = elim (ends.complete.made (λ (none : ⊥). none) quiet) [
   | inl zero ↦ inl (ends.status_is ∙ zero)
   | inr five ↦ inr (ends.status_is ∙ five)

@@ -5,10 +5,10 @@ use Rattle.std.specs.List.{cons_option, list_any}
 use Rattle.std.proofs.lemmas.List.{append-nil}
 use Rattle.std.proofs.lemmas.List.Folds.{list_any-append}
 use Rattle.std.proofs.lemmas.List.Quantifiers.{all_pairs_push}
-use Rattle.cron_serve.specs.Words.{MayStandTogether, is_journal, is_watch, lanes_asked, text_asked, AreWishesOf}
+use Rattle.cron_serve.specs.Words.{MayStandTogether, is_journal, is_watch, lanes_asked, request_asked, AreWishesOf}
 use Rattle.cron_serve.specs.declared.words.Choice.{Choice}
 use Rattle.cron_serve.specs.declared.words.Choice.TheVariants as choice
-use Rattle.cron_serve.specs.declared.words.Output.{Output}
+use Rattle.cron_serve.specs.declared.words.Request.{Request}
 use Rattle.cron_serve.specs.declared.words.Wishes.{Wishes}
 
 -- of options any two of which may stand together
@@ -102,30 +102,34 @@ each_false p (x ∷ xs) each =
 
 -- ---- which may stand beside an option
 
-text_may : (x c : Choice) → IsSome (text_asked c) → text_asked x ≡ None → is_watch x ≡ false → is_journal x ≡ false → MayStandTogether x c
-text_may choice.List c some none watch journal = absurd (cc)
-text_may choice.Check c some none watch journal = absurd (cc)
-text_may (choice.Make s) c some none watch journal = absurd (cc)
-text_may choice.Journal c some none watch journal = absurd (cc)
-text_may choice.Watch c some none watch journal = absurd (cc)
-text_may (choice.Lanes n) choice.List some none watch journal = tt
-text_may (choice.Lanes n) choice.Check some none watch journal = tt
-text_may (choice.Lanes n) (choice.Make s) some none watch journal = tt
-text_may (choice.Lanes n) choice.Journal some none watch journal = absurd (cc)
-text_may (choice.Lanes n) choice.Watch some none watch journal = absurd (cc)
-text_may (choice.Lanes n) (choice.Lanes m) some none watch journal = absurd (cc)
+request_may : (x c : Choice) → IsSome (request_asked c) → request_asked x ≡ None → is_watch x ≡ false → is_journal x ≡ false → MayStandTogether x c
+request_may choice.List c some none watch journal = absurd (cc)
+request_may choice.Check c some none watch journal = absurd (cc)
+request_may choice.Audit c some none watch journal = absurd (cc)
+request_may (choice.Make s) c some none watch journal = absurd (cc)
+request_may choice.Journal c some none watch journal = absurd (cc)
+request_may choice.Watch c some none watch journal = absurd (cc)
+request_may (choice.Lanes n) choice.List some none watch journal = tt
+request_may (choice.Lanes n) choice.Check some none watch journal = tt
+request_may (choice.Lanes n) choice.Audit some none watch journal = tt
+request_may (choice.Lanes n) (choice.Make s) some none watch journal = tt
+request_may (choice.Lanes n) choice.Journal some none watch journal = absurd (cc)
+request_may (choice.Lanes n) choice.Watch some none watch journal = absurd (cc)
+request_may (choice.Lanes n) (choice.Lanes m) some none watch journal = absurd (cc)
 
-journal_may : (x : Choice) → text_asked x ≡ None → is_journal x ≡ false → MayStandTogether x choice.Journal
+journal_may : (x : Choice) → request_asked x ≡ None → is_journal x ≡ false → MayStandTogether x choice.Journal
 journal_may choice.List none journal = absurd (cc)
 journal_may choice.Check none journal = absurd (cc)
+journal_may choice.Audit none journal = absurd (cc)
 journal_may (choice.Make s) none journal = absurd (cc)
 journal_may choice.Journal none journal = absurd (cc)
 journal_may choice.Watch none journal = tt
 journal_may (choice.Lanes n) none journal = tt
 
-watch_may : (x : Choice) → text_asked x ≡ None → is_watch x ≡ false → MayStandTogether x choice.Watch
+watch_may : (x : Choice) → request_asked x ≡ None → is_watch x ≡ false → MayStandTogether x choice.Watch
 watch_may choice.List none watch = absurd (cc)
 watch_may choice.Check none watch = absurd (cc)
+watch_may choice.Audit none watch = absurd (cc)
 watch_may (choice.Make s) none watch = absurd (cc)
 watch_may choice.Journal none watch = tt
 watch_may choice.Watch none watch = absurd (cc)
@@ -134,46 +138,59 @@ watch_may (choice.Lanes n) none watch = tt
 lanes_may : (x : Choice) (n : ℕ) → lanes_asked x ≡ None → MayStandTogether x (choice.Lanes n)
 lanes_may choice.List n none = tt
 lanes_may choice.Check n none = tt
+lanes_may choice.Audit n none = tt
 lanes_may (choice.Make s) n none = tt
 lanes_may choice.Journal n none = tt
 lanes_may choice.Watch n none = tt
 lanes_may (choice.Lanes m) n none = absurd (cc)
 
--- what stands beside a text asks for no other, and for nothing beside a report
-beside_text : (x c : Choice) → IsSome (text_asked c) → MayStandTogether x c → (text_asked x ≡ None) × (is_watch x ≡ false) × (is_journal x ≡ false)
-beside_text x choice.Journal some may = absurd (cc)
-beside_text x choice.Watch some may = absurd (cc)
-beside_text x (choice.Lanes m) some may = absurd (cc)
-beside_text (choice.Lanes n) choice.List some may = (refl, refl, refl)
-beside_text (choice.Lanes n) choice.Check some may = (refl, refl, refl)
-beside_text (choice.Lanes n) (choice.Make s) some may = (refl, refl, refl)
-beside_text choice.List choice.List some may = absurd may
-beside_text choice.List choice.Check some may = absurd may
-beside_text choice.List (choice.Make s) some may = absurd may
-beside_text choice.Check choice.List some may = absurd may
-beside_text choice.Check choice.Check some may = absurd may
-beside_text choice.Check (choice.Make s) some may = absurd may
-beside_text (choice.Make r) choice.List some may = absurd may
-beside_text (choice.Make r) choice.Check some may = absurd may
-beside_text (choice.Make r) (choice.Make s) some may = absurd may
-beside_text choice.Journal choice.List some may = absurd may
-beside_text choice.Journal choice.Check some may = absurd may
-beside_text choice.Journal (choice.Make s) some may = absurd may
-beside_text choice.Watch choice.List some may = absurd may
-beside_text choice.Watch choice.Check some may = absurd may
-beside_text choice.Watch (choice.Make s) some may = absurd may
+-- what stands beside an option that asks for something instead of a report asks for nothing but lanes
+beside_request : (x c : Choice) → IsSome (request_asked c) → MayStandTogether x c → (request_asked x ≡ None) × (is_watch x ≡ false) × (is_journal x ≡ false)
+beside_request x choice.Journal some may = absurd (cc)
+beside_request x choice.Watch some may = absurd (cc)
+beside_request x (choice.Lanes m) some may = absurd (cc)
+beside_request (choice.Lanes n) choice.List some may = (refl, refl, refl)
+beside_request (choice.Lanes n) choice.Check some may = (refl, refl, refl)
+beside_request (choice.Lanes n) choice.Audit some may = (refl, refl, refl)
+beside_request (choice.Lanes n) (choice.Make s) some may = (refl, refl, refl)
+beside_request choice.List choice.List some may = absurd may
+beside_request choice.List choice.Check some may = absurd may
+beside_request choice.List choice.Audit some may = absurd may
+beside_request choice.List (choice.Make s) some may = absurd may
+beside_request choice.Check choice.List some may = absurd may
+beside_request choice.Check choice.Check some may = absurd may
+beside_request choice.Check choice.Audit some may = absurd may
+beside_request choice.Check (choice.Make s) some may = absurd may
+beside_request choice.Audit choice.List some may = absurd may
+beside_request choice.Audit choice.Check some may = absurd may
+beside_request choice.Audit choice.Audit some may = absurd may
+beside_request choice.Audit (choice.Make s) some may = absurd may
+beside_request (choice.Make r) choice.List some may = absurd may
+beside_request (choice.Make r) choice.Check some may = absurd may
+beside_request (choice.Make r) choice.Audit some may = absurd may
+beside_request (choice.Make r) (choice.Make s) some may = absurd may
+beside_request choice.Journal choice.List some may = absurd may
+beside_request choice.Journal choice.Check some may = absurd may
+beside_request choice.Journal choice.Audit some may = absurd may
+beside_request choice.Journal (choice.Make s) some may = absurd may
+beside_request choice.Watch choice.List some may = absurd may
+beside_request choice.Watch choice.Check some may = absurd may
+beside_request choice.Watch choice.Audit some may = absurd may
+beside_request choice.Watch (choice.Make s) some may = absurd may
 
-beside_journal : (x : Choice) → MayStandTogether x choice.Journal → (text_asked x ≡ None) × (is_journal x ≡ false)
+beside_journal : (x : Choice) → MayStandTogether x choice.Journal → (request_asked x ≡ None) × (is_journal x ≡ false)
 beside_journal choice.List may = absurd may
 beside_journal choice.Check may = absurd may
+beside_journal choice.Audit may = absurd may
 beside_journal (choice.Make s) may = absurd may
 beside_journal choice.Journal may = absurd may
 beside_journal choice.Watch may = (refl, refl)
 beside_journal (choice.Lanes n) may = (refl, refl)
 
-beside_watch : (x : Choice) → MayStandTogether x choice.Watch → (text_asked x ≡ None) × (is_watch x ≡ false)
+beside_watch : (x : Choice) → MayStandTogether x choice.Watch → (request_asked x ≡ None) × (is_watch x ≡ false)
 beside_watch choice.List may = absurd may
 beside_watch choice.Check may = absurd may
+beside_watch choice.Audit may = absurd may
 beside_watch (choice.Make s) may = absurd may
 beside_watch choice.Journal may = (refl, refl)
 beside_watch choice.Watch may = absurd may
@@ -182,6 +199,7 @@ beside_watch (choice.Lanes n) may = (refl, refl)
 beside_lanes : (x : Choice) (n : ℕ) → MayStandTogether x (choice.Lanes n) → lanes_asked x ≡ None
 beside_lanes choice.List n may = refl
 beside_lanes choice.Check n may = refl
+beside_lanes choice.Audit n may = refl
 beside_lanes (choice.Make s) n may = refl
 beside_lanes choice.Journal n may = refl
 beside_lanes choice.Watch n may = refl
@@ -204,50 +222,50 @@ GoesOn c old new = (before : List Choice) → AreWishesOf before old → AreWish
 abbrev Clashes : (c : Choice) (old : Wishes) → Type 0
 Clashes c old = (before behind : List Choice) → AreWishesOf before old → AllPairs MayStandTogether (before ++ c ∷ behind) → ⊥
 
--- the option asks for this text
-pub record IsText (c : Choice) (text : Output) : Type 0 where
-  pub asked : text_asked c ≡ Some text
+-- the option asks for this in place of a report
+pub record IsInstead (c : Choice) (request : Request) : Type 0 where
+  pub asked : request_asked c ≡ Some request
   pub no_lanes : lanes_asked c ≡ None
   pub no_watch : is_watch c ≡ false
   pub no_journal : is_journal c ≡ false
 
-pub with_text : (c : Choice) (text : Output) (old new : Wishes) → IsText c text → (old.text ≡ None) × (old.watch ≡ false) × (old.journal ≡ false)
-    × (new ≡ record old { text = Some text }) → GoesOn c old new
-with_text c text old new option is before are =
-    let no_text = are.text ∙ ap option_to_list is.0 in
-    let some : IsSome (text_asked c) = ap is_some option.asked in
+pub with_request : (c : Choice) (request : Request) (old new : Wishes) → IsInstead c request → (old.instead ≡ None) × (old.watch ≡ false) × (old.journal ≡ false)
+    × (new ≡ record old { instead = Some request }) → GoesOn c old new
+with_request c request old new option is before are =
+    let no_request = are.instead ∙ ap option_to_list is.0 in
+    let some : IsSome (request_asked c) = ap is_some option.asked in
     subst (AreWishesOf (before ++ c ∷ [])) (sym is.3) (record {
       together =
           all_pairs_push MayStandTogether before c are.together
-          (λ k d within. text_may (get_or before k d) c some (none_picked text_asked before no_text k d within) (none_any is_watch before (are.watch ∙ is.1) k d within)
+          (λ k d within. request_may (get_or before k d) c some (none_picked request_asked before no_request k d within) (none_any is_watch before (are.watch ∙ is.1) k d within)
           (none_any is_journal before (are.journal ∙ is.2) k d within));
-      text = picks_more text_asked before c ∙ ap (λ l. l ++ option_to_list (text_asked c)) no_text ∙ ap option_to_list option.asked;
+      instead = picks_more request_asked before c ∙ ap (λ l. l ++ option_to_list (request_asked c)) no_request ∙ ap option_to_list option.asked;
       watch = any_on is_watch before c option.no_watch ∙ are.watch;
       journal = any_on is_journal before c option.no_journal ∙ are.journal;
       lanes = picks_on lanes_asked before c option.no_lanes ∙ are.lanes;
     })
 
-pub with_journal : (old new : Wishes) → (old.text ≡ None) × (old.journal ≡ false) × (new ≡ record old { journal = true }) → GoesOn choice.Journal old new
+pub with_journal : (old new : Wishes) → (old.instead ≡ None) × (old.journal ≡ false) × (new ≡ record old { journal = true }) → GoesOn choice.Journal old new
 with_journal old new is before are =
-    let no_text = are.text ∙ ap option_to_list is.0 in
+    let no_request = are.instead ∙ ap option_to_list is.0 in
     subst (AreWishesOf (before ++ choice.Journal ∷ [])) (sym is.2) (record {
       together =
           all_pairs_push MayStandTogether before choice.Journal are.together
-          (λ k d within. journal_may (get_or before k d) (none_picked text_asked before no_text k d within) (none_any is_journal before (are.journal ∙ is.1) k d within));
-      text = picks_on text_asked before choice.Journal refl ∙ are.text;
+          (λ k d within. journal_may (get_or before k d) (none_picked request_asked before no_request k d within) (none_any is_journal before (are.journal ∙ is.1) k d within));
+      instead = picks_on request_asked before choice.Journal refl ∙ are.instead;
       watch = any_on is_watch before choice.Journal refl ∙ are.watch;
       journal = any_now is_journal before choice.Journal refl;
       lanes = picks_on lanes_asked before choice.Journal refl ∙ are.lanes;
     })
 
-pub with_watch : (old new : Wishes) → (old.text ≡ None) × (old.watch ≡ false) × (new ≡ record old { watch = true }) → GoesOn choice.Watch old new
+pub with_watch : (old new : Wishes) → (old.instead ≡ None) × (old.watch ≡ false) × (new ≡ record old { watch = true }) → GoesOn choice.Watch old new
 with_watch old new is before are =
-    let no_text = are.text ∙ ap option_to_list is.0 in
+    let no_request = are.instead ∙ ap option_to_list is.0 in
     subst (AreWishesOf (before ++ choice.Watch ∷ [])) (sym is.2) (record {
       together =
           all_pairs_push MayStandTogether before choice.Watch are.together
-          (λ k d within. watch_may (get_or before k d) (none_picked text_asked before no_text k d within) (none_any is_watch before (are.watch ∙ is.1) k d within));
-      text = picks_on text_asked before choice.Watch refl ∙ are.text;
+          (λ k d within. watch_may (get_or before k d) (none_picked request_asked before no_request k d within) (none_any is_watch before (are.watch ∙ is.1) k d within));
+      instead = picks_on request_asked before choice.Watch refl ∙ are.instead;
       watch = any_now is_watch before choice.Watch refl;
       journal = any_on is_journal before choice.Watch refl ∙ are.journal;
       lanes = picks_on lanes_asked before choice.Watch refl ∙ are.lanes;
@@ -260,7 +278,7 @@ with_lanes n old new is before are =
       together =
           all_pairs_push MayStandTogether before (choice.Lanes n) are.together
           (λ k d within. lanes_may (get_or before k d) n (none_picked lanes_asked before no_lanes k d within));
-      text = picks_on text_asked before (choice.Lanes n) refl ∙ are.text;
+      instead = picks_on request_asked before (choice.Lanes n) refl ∙ are.instead;
       watch = any_on is_watch before (choice.Lanes n) refl ∙ are.watch;
       journal = any_on is_journal before (choice.Lanes n) refl ∙ are.journal;
       lanes = picks_more lanes_asked before (choice.Lanes n) ∙ ap (λ l. l ++ n ∷ []) no_lanes;
@@ -271,26 +289,26 @@ listed : {Y : Type 0} (o : Option Y) → IsSome o → option_to_list o ≡ [] �
 listed None some none = absurd (cc)
 listed (Some y) some none = absurd (cc)
 
-pub text_clashes : (c : Choice) (old : Wishes) → IsSome (text_asked c) → IsSome old.text ⊎ (old.watch ≡ true) ⊎ (old.journal ≡ true) → Clashes c old
-text_clashes c old some (inl text) before behind are pairs =
-    listed old.text text (sym are.text ∙ each_none text_asked before (λ k d within. (beside_text (get_or before k d) c some (each_beside before behind c pairs k d within)).0))
-text_clashes c old some (inr (inl watch)) before behind are pairs =
-    let none = each_false is_watch before (λ k d within. (beside_text (get_or before k d) c some (each_beside before behind c pairs k d within)).1) in
+pub request_clashes : (c : Choice) (old : Wishes) → IsSome (request_asked c) → IsSome old.instead ⊎ (old.watch ≡ true) ⊎ (old.journal ≡ true) → Clashes c old
+request_clashes c old some (inl instead) before behind are pairs =
+    listed old.instead instead (sym are.instead ∙ each_none request_asked before (λ k d within. (beside_request (get_or before k d) c some (each_beside before behind c pairs k d within)).0))
+request_clashes c old some (inr (inl watch)) before behind are pairs =
+    let none = each_false is_watch before (λ k d within. (beside_request (get_or before k d) c some (each_beside before behind c pairs k d within)).1) in
     absurd (let both : true ≡ false = sym watch ∙ sym are.watch ∙ none in cc)
-text_clashes c old some (inr (inr journal)) before behind are pairs =
-    let none = each_false is_journal before (λ k d within. (beside_text (get_or before k d) c some (each_beside before behind c pairs k d within)).2) in
+request_clashes c old some (inr (inr journal)) before behind are pairs =
+    let none = each_false is_journal before (λ k d within. (beside_request (get_or before k d) c some (each_beside before behind c pairs k d within)).2) in
     absurd (let both : true ≡ false = sym journal ∙ sym are.journal ∙ none in cc)
 
-pub journal_clashes : (old : Wishes) → IsSome old.text ⊎ (old.journal ≡ true) → Clashes choice.Journal old
-journal_clashes old (inl text) before behind are pairs =
-    listed old.text text (sym are.text ∙ each_none text_asked before (λ k d within. (beside_journal (get_or before k d) (each_beside before behind choice.Journal pairs k d within)).0))
+pub journal_clashes : (old : Wishes) → IsSome old.instead ⊎ (old.journal ≡ true) → Clashes choice.Journal old
+journal_clashes old (inl instead) before behind are pairs =
+    listed old.instead instead (sym are.instead ∙ each_none request_asked before (λ k d within. (beside_journal (get_or before k d) (each_beside before behind choice.Journal pairs k d within)).0))
 journal_clashes old (inr journal) before behind are pairs =
     let none = each_false is_journal before (λ k d within. (beside_journal (get_or before k d) (each_beside before behind choice.Journal pairs k d within)).1) in
     absurd (let both : true ≡ false = sym journal ∙ sym are.journal ∙ none in cc)
 
-pub watch_clashes : (old : Wishes) → IsSome old.text ⊎ (old.watch ≡ true) → Clashes choice.Watch old
-watch_clashes old (inl text) before behind are pairs =
-    listed old.text text (sym are.text ∙ each_none text_asked before (λ k d within. (beside_watch (get_or before k d) (each_beside before behind choice.Watch pairs k d within)).0))
+pub watch_clashes : (old : Wishes) → IsSome old.instead ⊎ (old.watch ≡ true) → Clashes choice.Watch old
+watch_clashes old (inl instead) before behind are pairs =
+    listed old.instead instead (sym are.instead ∙ each_none request_asked before (λ k d within. (beside_watch (get_or before k d) (each_beside before behind choice.Watch pairs k d within)).0))
 watch_clashes old (inr watch) before behind are pairs =
     let none = each_false is_watch before (λ k d within. (beside_watch (get_or before k d) (each_beside before behind choice.Watch pairs k d within)).1) in
     absurd (let both : true ≡ false = sym watch ∙ sym are.watch ∙ none in cc)

@@ -9,12 +9,13 @@ use Rattle.std.specs.declared.vec.IntoIter.{IntoIter}
 use Rattle.std.proofs.lemmas.Fmt.{decimal_injective}
 use Rattle.std.proofs.lemmas.List.{append-nil, nil_from_length}
 use Rattle.std.proofs.lemmas.List.Quantifiers.{all_pairs_push}
-use Rattle.cron_serve.specs.Words.{IsSpelledBy, BeginsWith, AreSpelledBy, MayStandTogether, is_watch, lanes_of, output_of, text_asked, wanted, Asks, HasNoOptions, AreWishesOf, texts_of, behind_name}
+use Rattle.cron_serve.specs.Words.{IsSpelledBy, BeginsWith, AreSpelledBy, MayStandTogether, is_watch, lanes_of, request_of, request_asked, wanted, Asks, HasNoOptions, AreWishesOf, texts_of, behind_name}
 use Rattle.cron_serve.specs.declared.words.Asked.{Asked}
 use Rattle.cron_serve.specs.declared.words.Choice.{Choice}
 use Rattle.cron_serve.specs.declared.words.Choice.TheVariants as choice
-use Rattle.cron_serve.specs.declared.words.Output.{Output}
 use Rattle.cron_serve.specs.declared.words.Output.TheVariants.{Report}
+use Rattle.cron_serve.specs.declared.words.Request.{Request}
+use Rattle.cron_serve.specs.declared.words.Request.TheVariants.{Text}
 use Rattle.cron_serve.specs.declared.words.Wishes.{Wishes}
 use Rattle.cron_serve.proofs.OptionLemmas.{begins_somewhere, one_first, one_spelled, word_there}
 use Rattle.cron_serve.proofs.WishLemmas.{together_none}
@@ -68,12 +69,12 @@ pub record HasRead (all : List (List ℕ)) (wishes : Wishes) (rest : List (List 
   pub spelled : (behind : List Choice) → AreSpelledBy behind rest → AreSpelledBy (before ++ behind) all
   pub only : (choices : List Choice) → AreSpelledBy choices all → (behind : List Choice) × (choices ≡ before ++ behind) × AreSpelledBy behind rest
 
-pub nothing_read : (all : List (List ℕ)) (wishes : Wishes) → wishes.text ≡ None → wishes.watch ≡ false → wishes.journal ≡ false → wishes.lanes ≡ None → HasRead all wishes all
-nothing_read all wishes text watch journal lanes = record {
+pub nothing_read : (all : List (List ℕ)) (wishes : Wishes) → wishes.instead ≡ None → wishes.watch ≡ false → wishes.journal ≡ false → wishes.lanes ≡ None → HasRead all wishes all
+nothing_read all wishes instead watch journal lanes = record {
   before = [];
   are = record {
     together = together_none;
-    text = sym (ap option_to_list text);
+    instead = sym (ap option_to_list instead);
     watch = sym watch;
     journal = sym journal;
     lanes = sym (ap option_to_list lanes);
@@ -118,29 +119,30 @@ no_option all rest tail word old read is none choices words = go (read.only choi
     go ([], same, empty) = absurd (cc)
     go (x ∷ xs, same, (others, begins, spelled)) = none x others (subst (λ words. BeginsWith x words others) is begins)
 
-pub same_asked : (a b : Asked) → a.output ≡ b.output → a.lanes ≡ b.lanes → a ≡ b
-same_asked a b output lanes = rw (output, lanes) refl
+pub same_asked : (a b : Asked) → a.request ≡ b.request → a.lanes ≡ b.lanes → a ≡ b
+same_asked a b request lanes = rw (request, lanes) refl
 
 first_or : {Y : Type 0} (o : Option Y) (d : Y) → unwrap_or o d ≡ get_or (option_to_list o) 0 d
 first_or None d = refl
 first_or (Some y) d = refl
 
-pub asked_is : (wishes : Wishes) (asked : Asked) (choices : List Choice) → asked.output ≡ unwrap_or wishes.text (Report wishes.watch wishes.journal)
+pub asked_is : (wishes : Wishes) (asked : Asked) (choices : List Choice) → asked.request ≡ unwrap_or wishes.instead (Text (Report wishes.watch wishes.journal))
     → asked.lanes ≡ unwrap_or wishes.lanes 1 → AreWishesOf choices wishes → asked ≡ wanted choices
-asked_is wishes asked choices output lanes are =
+asked_is wishes asked choices request lanes are =
     same_asked asked (wanted choices)
-    (output ∙ first_or wishes.text (Report wishes.watch wishes.journal) ∙ ap (λ (l : List Output). get_or l 0 (Report wishes.watch wishes.journal)) (sym are.text)
-    ∙ ap (λ (b : Bool). get_or (filter_map text_asked choices) 0 (Report b wishes.journal)) (sym are.watch)
-    ∙ ap (λ (b : Bool). get_or (filter_map text_asked choices) 0 (Report (list_any is_watch choices) b)) (sym are.journal))
+    (request ∙ first_or wishes.instead (Text (Report wishes.watch wishes.journal))
+    ∙ ap (λ (l : List Request). get_or l 0 (Text (Report wishes.watch wishes.journal))) (sym are.instead)
+    ∙ ap (λ (b : Bool). get_or (filter_map request_asked choices) 0 (Text (Report b wishes.journal))) (sym are.watch)
+    ∙ ap (λ (b : Bool). get_or (filter_map request_asked choices) 0 (Text (Report (list_any is_watch choices) b))) (sym are.journal))
     (lanes ∙ first_or wishes.lanes 1 ∙ ap (λ (l : List ℕ). get_or l 0 1) (sym are.lanes))
 
 -- no word is left
 pub all_read : (all rest : List (List ℕ)) (wishes : Wishes) (asked : Asked) → HasRead all wishes rest → rest ≡ []
-    → asked.output ≡ unwrap_or wishes.text (Report wishes.watch wishes.journal) → asked.lanes ≡ unwrap_or wishes.lanes 1 → Asks all asked
-all_read all rest wishes asked read none output lanes = (
+    → asked.request ≡ unwrap_or wishes.instead (Text (Report wishes.watch wishes.journal)) → asked.lanes ≡ unwrap_or wishes.lanes 1 → Asks all asked
+all_read all rest wishes asked read none request lanes = (
   read.before,
   record { spelled = subst (λ (choices : List Choice). AreSpelledBy choices all) (append-nil read.before) (read.spelled [] none); together = read.are.together },
-  asked_is wishes asked read.before output lanes read.are,
+  asked_is wishes asked read.before request lanes read.are,
 )
 
 -- what one option asks for
@@ -160,13 +162,13 @@ together_two a b may = all_pairs_push MayStandTogether (a ∷ []) b (together_on
 pub asks_report : (words : List (List ℕ)) → words ≡ [] → Asks words (wanted [])
 asks_report words is = ([], record { spelled = is; together = together_none }, refl)
 
-pub asks_none : (words : List (List ℕ)) (asked : Asked) → words ≡ [] → asked.output ≡ Report false false → asked.lanes ≡ 1 → Asks words asked
-asks_none words asked is output lanes = ([], record { spelled = is; together = together_none }, same_asked asked (wanted []) output lanes)
+pub asks_none : (words : List (List ℕ)) (asked : Asked) → words ≡ [] → asked.request ≡ Text (Report false false) → asked.lanes ≡ 1 → Asks words asked
+asks_none words asked is request lanes = ([], record { spelled = is; together = together_none }, same_asked asked (wanted []) request lanes)
 
-pub asks_alone : (c : Choice) (own : List (List ℕ)) (asked : Asked) → IsSpelledBy c own → asked.output ≡ output_of (c ∷ [])
+pub asks_alone : (c : Choice) (own : List (List ℕ)) (asked : Asked) → IsSpelledBy c own → asked.request ≡ request_of (c ∷ [])
     → asked.lanes ≡ lanes_of (c ∷ []) → Asks own asked
-asks_alone c own asked is output lanes =
-    (c ∷ [], record { spelled = spelled_alone c own is; together = together_one c }, same_asked asked (wanted (c ∷ [])) output lanes)
+asks_alone c own asked is request lanes =
+    (c ∷ [], record { spelled = spelled_alone c own is; together = together_one c }, same_asked asked (wanted (c ∷ [])) request lanes)
 
 pub asks_both : (a b : Choice) (own other : List (List ℕ)) (asked : Asked) → IsSpelledBy a own → IsSpelledBy b other → MayStandTogether a b
     → asked ≡ wanted (a ∷ b ∷ []) → Asks (own ++ other) asked
@@ -191,6 +193,7 @@ asks_clash a b own other behind first second apart (x ∷ y ∷ more) are =
 pub record IsNoOption (word : List ℕ) : Type 0 where
   pub list : word ≢ codes "--list"
   pub check : word ≢ codes "--check"
+  pub audit : word ≢ codes "--audit"
   pub journal : word ≢ codes "--journal"
   pub watch : word ≢ codes "--watch"
   pub lanes : word ≢ codes "--lanes"
@@ -206,6 +209,7 @@ module _ (word : List ℕ) (words : List (List ℕ)) (other : IsNoOption word) w
   pub begins_none : (x : Choice) (others : List (List ℕ)) → BeginsWith x (word ∷ words) others → ⊥
   begins_none choice.List others (own, spells, whole) = other.list (is_first _ _ own others spells whole)
   begins_none choice.Check others (own, spells, whole) = other.check (is_first _ _ own others spells whole)
+  begins_none choice.Audit others (own, spells, whole) = other.audit (is_first _ _ own others spells whole)
   begins_none choice.Journal others (own, spells, whole) = other.journal (is_first _ _ own others spells whole)
   begins_none choice.Watch others (own, spells, whole) = other.watch (is_first _ _ own others spells whole)
   begins_none (choice.Make s) others (own, (l, inl spells), whole) = other.make (is_first _ _ own others spells whole)
@@ -223,6 +227,7 @@ lane_counts : (choices : List Choice) (words : List (List ℕ)) → AreSpelledBy
 lane_counts [] words is = (omega arith, omega arith)
 lane_counts (choice.List ∷ xs) words is = lane_counts xs is.0 is.2
 lane_counts (choice.Check ∷ xs) words is = lane_counts xs is.0 is.2
+lane_counts (choice.Audit ∷ xs) words is = lane_counts xs is.0 is.2
 lane_counts (choice.Journal ∷ xs) words is = lane_counts xs is.0 is.2
 lane_counts (choice.Watch ∷ xs) words is = lane_counts xs is.0 is.2
 lane_counts (choice.Make s ∷ xs) words is = lane_counts xs is.0 is.2

@@ -1,9 +1,9 @@
 -- What each end of the program says of its input, its text, its book and its nodes. Source: docs/RUN_FILE.md.
-use Rattle.std.specs.Prelude.{◌≡◌, ◌≢◌, ◌⊎◌, ◌↔◌, ℕ, ◌≤◌, None, Some, IsSome, IsSomeAnd}
+use Rattle.std.specs.Prelude.{◌≡◌, ◌⊎◌, ◌↔◌, ℕ, ◌≤◌, None, Some, IsSome, IsSomeAnd}
 use Rattle.cron_io.specs.Faults.{Rose}
-use Rattle.cron_io.specs.Reading.{HasReadOn, StaysReliable}
+use Rattle.cron_io.specs.Reading.{HasReadOn}
 use Rattle.cron_io.specs.Views.{SourceView, SinkView}
-use Rattle.cron_serve.specs.Complete.{Completes, HasRoomForText, LacksRoomForText}
+use Rattle.cron_serve.specs.Complete.{HasRoomForText, LacksRoomForText}
 use Rattle.cron_serve.specs.Serve.{IsRefused, LeavesNoRun, WritesText, WritesSome}
 use Rattle.cron_serve.specs.Written.{LeavesNothing}
 use Rattle.cron_serve.specs.declared.run_end.RunEnd.{RunEnd}
@@ -41,13 +41,3 @@ pub record EndsUnread (source source' : SourceView) (sink sink' : SinkView) (end
   pub unwritten : sink' ≡ sink
   pub no_refusal : end.refusal ≡ None
   pub no_run : LeavesNoRun end.book end.nodes.items
-
--- How the program ends once its words ask for this: what its status says is so, and the bytes decide it where no call fails. The status is
--- not that of faulty words, 1. Over a source that is reliable it is not that of a failed read either, 3, and the source stays reliable.
--- Private functions alone cite it.
-pub record EndsServing (output : Output) (source source' : SourceView) (reliable reliable' : Type 0) (sink sink' : SinkView) (end : RunEnd) : Type 0 where
-  pub ends : Ends output source source' sink sink' end
-  pub complete : Completes output source source' sink sink' end
-  pub words : end.status ≢ 1
-  pub no_read_fault : reliable → end.status ≢ 3
-  pub lasting : reliable → StaysReliable source source' reliable'

@@ -6,6 +6,8 @@ pub mod Serve
 pub mod Played
 pub mod Stop
 pub mod Written
+pub mod Audit
 pub mod Complete
 pub mod Ends
+pub mod Served
 pub mod Program

@@ -1,18 +1,17 @@
 -- How the program ends, by its exit status. Source: docs/RUN_FILE.md.
 use Rattle.std.specs.Prelude.{◌≡◌, ℕ}
 use Rattle.cron_io.specs.Views.{SourceView, SinkView}
-use Rattle.cron_serve.specs.Complete.{Completes}
-use Rattle.cron_serve.specs.Ends.{Ends}
 use Rattle.cron_serve.specs.Serve.{note_text, status_note, IsNoted}
+use Rattle.cron_serve.specs.Served.{CompletesFor, EndsFor}
 use Rattle.cron_serve.specs.declared.run_end.RunEnd.{RunEnd}
-use Rattle.cron_serve.specs.declared.words.Output.{Output}
+use Rattle.cron_serve.specs.declared.words.Request.{Request}
 
 -- the program was asked for this and ended with this status: its end says what was written, it is the one that the bytes decide
 -- where no call fails, and its note was written
-pub record EndsProgram (output : Output) (source source' : SourceView) (sink sink' notes notes' : SinkView) (status : ℕ) : Type 0 where
+pub record EndsProgram (request : Request) (source source' : SourceView) (sink sink' notes notes' : SinkView) (status : ℕ) : Type 0 where
   pub end : RunEnd
-  pub ends : Ends output source source' sink sink' end
-  pub complete : Completes output source source' sink sink' end
+  pub ends : EndsFor request source source' sink sink' end
+  pub complete : CompletesFor request source source' sink sink' end
   pub note : IsNoted notes notes' (note_text end.status end.refusal)
   pub status_is : status ≡ end.status
 

@@ -134,10 +134,14 @@ refusal_note refusal =
     codes "cron_cluster: line " ++ decimal refusal.line ++ codes ": cause " ++ decimal refusal.cause ++ codes " at "
     ++ decimal refusal.place ++ 10 ∷ []
 
+-- the note of a faulty command line
+abbrev pub usage_note : List ℕ
+usage_note = codes "cron_cluster: usage: cron_cluster [--journal] [--lanes N] [--make SEED] [--list] [--check] [--watch] [--audit]" ++ 10 ∷ []
+
 -- the note of a status
 abbrev pub status_note : ℕ → List ℕ
 status_note status =
-    if status == 1 then codes "cron_cluster: usage: cron_cluster [--journal] [--lanes N] [--make SEED] [--list] [--check] [--watch]" ++ 10 ∷ []
+    if status == 1 then usage_note
     else (if status == 3 then codes "cron_cluster: read fault" ++ 10 ∷ []
     else (if status == 4 then codes "cron_cluster: write fault" ++ 10 ∷ []
     else (if status == 5 then codes "cron_cluster: out of memory" ++ 10 ∷ [] else [])))

@@ -8,8 +8,10 @@ use Rattle.run_text.specs.declared.refusal.Refusal.{Refusal}
 use Rattle.run_text.specs.declared.refusal.RunFault.{RunFault}
 use Rattle.run_text.specs.declared.refusal.RunFault.TheVariants as run
 use Rattle.job_table.specs.Table.{whole_run}
+use Rattle.cron_serve.specs.Audit.{IsRefusedByAudit}
 use Rattle.cron_serve.specs.Serve.{IsRefused}
-use Rattle.cron_serve.specs.declared.words.Output.{Output}
+use Rattle.cron_serve.specs.declared.words.Request.{Request}
+use Rattle.cron_serve.specs.declared.words.Request.TheVariants.{Text, Audit}
 use Rattle.cron_serve.specs.declared.stop.Stop.{Stop}
 use Rattle.cron_serve.specs.declared.stop.Stop.TheVariants.{Usage, Refused, ReadFault, OutOfMemory}
 use Rattle.cron_fields.specs.declared.cause.Cause.TheVariants.{TooLarge}
@@ -46,9 +48,14 @@ StopsAtOnce (Refused refusal) = ⊥
 StopsAtOnce ReadFault = ⊥
 StopsAtOnce OutOfMemory = ⊤
 
+-- why the input was refused, where this was asked for
+abbrev pub IsRefusedFor : Request → (source source' : SourceView) → Refusal → Type 0
+IsRefusedFor (Text output) source source' refusal = IsRefused output source source' refusal
+IsRefusedFor Audit source source' refusal = IsRefusedByAudit source source' refusal
+
 -- why the program stopped that was asked for this: the input was refused, a read failed, or memory ran out
-abbrev pub StopsFor : Output → (source source' : SourceView) → Stop → Type 0
-StopsFor output source source' Usage = ⊥
-StopsFor output source source' (Refused refusal) = IsRefused output source source' refusal
-StopsFor output source source' ReadFault = Rose source.faults source'.faults
-StopsFor output source source' OutOfMemory = ⊤
+abbrev pub StopsFor : Request → (source source' : SourceView) → Stop → Type 0
+StopsFor request source source' Usage = ⊥
+StopsFor request source source' (Refused refusal) = IsRefusedFor request source source' refusal
+StopsFor request source source' ReadFault = Rose source.faults source'.faults
+StopsFor request source source' OutOfMemory = ⊤

@@ -7,8 +7,9 @@ use Rattle.std.specs.declared.alloc.Global.{Global}
 use Rattle.cron_serve.specs.declared.words.Asked.{Asked}
 use Rattle.cron_serve.specs.declared.words.Choice.{Choice}
 use Rattle.cron_serve.specs.declared.words.Choice.TheVariants as choice
-use Rattle.cron_serve.specs.declared.words.Output.{Output}
 use Rattle.cron_serve.specs.declared.words.Output.TheVariants.{Report, DueList, Check, Summary}
+use Rattle.cron_serve.specs.declared.words.Request.{Request}
+use Rattle.cron_serve.specs.declared.words.Request.TheVariants.{Text, Audit}
 use Rattle.cron_serve.specs.declared.words.Wishes.{Wishes}
 
 -- the words are this name and this value: two words, or one with `=` between the two
@@ -19,6 +20,7 @@ IsNameWithValue name value words = (words ≡ name ∷ value ∷ []) ⊎ (words 
 abbrev pub IsSpelledBy : Choice → List (List ℕ) → Type 0
 IsSpelledBy choice.List words = words ≡ codes "--list" ∷ []
 IsSpelledBy choice.Check words = words ≡ codes "--check" ∷ []
+IsSpelledBy choice.Audit words = words ≡ codes "--audit" ∷ []
 IsSpelledBy choice.Journal words = words ≡ codes "--journal" ∷ []
 IsSpelledBy choice.Watch words = words ≡ codes "--watch" ∷ []
 IsSpelledBy (choice.Make seed) words = (seed ≤ 4_294_967_295) × IsNameWithValue (codes "--make") (decimal seed) words
@@ -33,16 +35,18 @@ abbrev pub AreSpelledBy : List Choice → List (List ℕ) → Type 0
 AreSpelledBy [] words = words ≡ []
 AreSpelledBy (choice ∷ choices) words = (others : List (List ℕ)) × BeginsWith choice words others × AreSpelledBy choices others
 
--- The two options may stand on one command line, in this order. One text may be asked for; beside a report there may be what was seen of
--- the board, and the journal.
+-- The two options may stand on one command line, in this order. One text may be asked for, or an audit; beside a report there may be what
+-- was seen of the board, and the journal.
 abbrev pub MayStandTogether : Choice → Choice → Type 0
 MayStandTogether choice.List (choice.Lanes lanes) = Unit {0}
 MayStandTogether choice.Check (choice.Lanes lanes) = Unit {0}
+MayStandTogether choice.Audit (choice.Lanes lanes) = Unit {0}
 MayStandTogether choice.Journal (choice.Lanes lanes) = Unit {0}
 MayStandTogether choice.Watch (choice.Lanes lanes) = Unit {0}
 MayStandTogether (choice.Make seed) (choice.Lanes lanes) = Unit {0}
 MayStandTogether (choice.Lanes lanes) choice.List = Unit {0}
 MayStandTogether (choice.Lanes lanes) choice.Check = Unit {0}
+MayStandTogether (choice.Lanes lanes) choice.Audit = Unit {0}
 MayStandTogether (choice.Lanes lanes) choice.Journal = Unit {0}
 MayStandTogether (choice.Lanes lanes) choice.Watch = Unit {0}
 MayStandTogether (choice.Lanes lanes) (choice.Make seed) = Unit {0}
@@ -55,12 +59,13 @@ pub record AreWordsOf (choices : List Choice) (words : List (List ℕ)) : Type 0
   pub spelled : AreSpelledBy choices words
   pub together : AllPairs MayStandTogether choices
 
--- the text that an option asks for in place of a report
-abbrev pub text_asked : Choice → Option Output
-text_asked choice.List = Some DueList
-text_asked choice.Check = Some Check
-text_asked (choice.Make seed) = Some (Summary seed)
-text_asked choice = None
+-- what an option asks for in place of a report
+abbrev pub request_asked : Choice → Option Request
+request_asked choice.List = Some (Text DueList)
+request_asked choice.Check = Some (Text Check)
+request_asked choice.Audit = Some Audit
+request_asked (choice.Make seed) = Some (Text (Summary seed))
+request_asked choice = None
 
 -- the number of lanes that an option asks for
 abbrev pub lanes_asked : Choice → Option ℕ
@@ -77,9 +82,9 @@ abbrev pub is_journal : Choice → Bool
 is_journal choice.Journal = true
 is_journal choice = false
 
--- what options ask the program to write: the report, with what else they ask for of the run, unless one of them asks for another text
-abbrev pub output_of : List Choice → Output
-output_of choices = get_or (filter_map text_asked choices) 0 (Report (list_any is_watch choices) (list_any is_journal choices))
+-- what options ask the program for: the report, with what else they ask for of the run, unless one of them asks for something instead
+abbrev pub request_of : List Choice → Request
+request_of choices = get_or (filter_map request_asked choices) 0 (Text (Report (list_any is_watch choices) (list_any is_journal choices)))
 
 -- on how many lanes: on one unless one of them asks for more
 abbrev pub lanes_of : List Choice → ℕ
@@ -87,7 +92,7 @@ lanes_of choices = get_or (filter_map lanes_asked choices) 0 1
 
 -- what options ask for
 abbrev pub wanted : List Choice → Asked
-wanted choices = record { output = output_of choices; lanes = lanes_of choices }
+wanted choices = record { request = request_of choices; lanes = lanes_of choices }
 
 -- the words ask for this
 abbrev pub Asks : List (List ℕ) → Asked → Type 0
@@ -100,7 +105,7 @@ HasNoOptions words = (choices : List Choice) → AreWordsOf choices words → �
 -- the options may stand together, and ask for this
 pub record AreWishesOf (choices : List Choice) (wishes : Wishes) : Type 0 where
   pub together : AllPairs MayStandTogether choices
-  pub text : filter_map text_asked choices ≡ option_to_list wishes.text
+  pub instead : filter_map request_asked choices ≡ option_to_list wishes.instead
   pub watch : list_any is_watch choices ≡ wishes.watch
   pub journal : list_any is_journal choices ≡ wishes.journal
   pub lanes : filter_map lanes_asked choices ≡ option_to_list wishes.lanes

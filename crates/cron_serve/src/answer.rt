@@ -13,7 +13,7 @@ ghost use Rattle.cron_serve.specs.Written.{EndsRunText, EndsWriting, status_of_l
 
 use crate::run_end::RunEnd;
 use crate::watch::{play_watched, write_watch};
-use crate::words::{Asked, Output};
+use crate::words::Output;
 use cron_io::Sink;
 use disk_model::MemDisk;
 use due_list::{ListFault, write_check, write_due};
@@ -56,21 +56,22 @@ pub struct Played {
 pub fn write_output<K: Sink, R: Threads + Wait + Sync, G: TurnGate + Sync>(
     rt: &R,
     alloc: Global,
-    asked: Asked,
+    output: Output,
+    lanes: u8,
     bytes: &[u8],
     sink: &mut K,
     gate: &G,
 ) -> Result<RunEnd, RunFault>
     requires short { length bytes.now ≤ 1_048_576 }
-    requires lanes { 0 < asked.lanes }
-    requires input { IsOfInput asked.output }
-    ensures end { IfOk result (EndsWriting asked.output bytes.now (K.seen sink.old) (K.seen sink.new)) }
-    ensures refused { IfErr result (λ fault. IfRefused fault (IsRefusedBytes asked.output bytes.now)) }
+    requires lanes { 0 < lanes }
+    requires input { IsOfInput output }
+    ensures end { IfOk result (EndsWriting output bytes.now (K.seen sink.old) (K.seen sink.new)) }
+    ensures refused { IfErr result (λ fault. IfRefused fault (IsRefusedBytes output bytes.now)) }
     ensures unwritten { IfErr result (λ _. K.seen sink.new ≡ K.seen sink.old) }
 {
-    match asked.output {
+    match output {
         Output::Report { watch, journal } => {
-            let played = play(rt, alloc, asked.lanes, watch, bytes, gate)?;
+            let played = play(rt, alloc, lanes, watch, bytes, gate)?;
             Ok(report(alloc, sink, journal, played))
         }
         Output::DueList => {

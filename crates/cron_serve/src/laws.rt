@@ -37,6 +37,10 @@ ghost use Rattle.run_text.specs.declared.refusal.Refusal.{Refusal};
 ghost use Rattle.job_table.specs.Table.{IsTableOf};
 ghost use Rattle.journal_text.specs.Summary.{IsBookSummary};
 ghost use Rattle.generated_run.specs.Made.{made_run, made_text};
+ghost use Rattle.audit_finding.specs.declared.finding.Fault.{Fault};
+ghost use Rattle.audit_finding.specs.declared.finding.Finding.{Finding};
+ghost use Rattle.audit_finding.specs.declared.finding.Finding.TheVariants.{Passes, Fails};
+ghost use Rattle.cron_serve.specs.Audit.{HasRunToAudit, IsAudited, IsFoundOfInput, IsRefusedAuditInput, IsRefusedByAudit, audit_line, audit_status};
 ghost use Rattle.cron_serve.specs.Complete.{Completes, EndsUndisturbed};
 ghost use Rattle.cron_serve.specs.Ends.{Ends};
 ghost use Rattle.run_input.specs.Input.{IsRunWithTable, IsTakenFrame};
@@ -48,6 +52,7 @@ ghost use Rattle.cron_serve.specs.Words.{Asks, HasNoOptions, IsNameWithValue, Is
 ghost use Rattle.cron_serve.specs.declared.words.Asked.{Asked};
 ghost use Rattle.cron_serve.specs.declared.words.Choice.{Choice};
 ghost use Rattle.cron_serve.specs.declared.words.Output.{Output};
+ghost use Rattle.cron_serve.specs.declared.words.Request.{Request};
 ghost use Rattle.cron_serve.specs.declared.run_end.RunEnd.{RunEnd};
 
 /// **The report is promised.** If the program was asked for the report alone and ended with status 0, the input was read, it is a run with a
@@ -55,87 +60,144 @@ ghost use Rattle.cron_serve.specs.declared.run_end.RunEnd.{RunEnd};
 /// instant of a crontab's job is there, and if grace lasts as long as the window, or the script has no command, each was launched.
 pub fn a_report_tells_of_each_launch()
     ensures { (source source' : SourceView) (sink sink' notes notes' : SinkView) (status : ℕ)
-        → EndsProgram (Output.Report false false) source source' sink sink' notes notes' status → status ≡ 0 → ReportsInput source source' sink sink' }
+        → EndsProgram (Request.Text (Output.Report false false)) source source' sink sink' notes notes' status → status ≡ 0
+        → ReportsInput source source' sink sink' }
 {}
 
-/// What the exit status of a program says that was asked for something. 0: the text was written, whole. 2: the input is refused, for
+/// What the exit status of a program says that was asked for a text. 0: the text was written, whole. 2: the input is refused, for
 /// what the note says, and nothing was written. 3: a read failed, and nothing was written. 4: a write failed, after a prefix of the text.
 /// 5: memory ran out, before the text or after a prefix of it. There is no higher one.
 pub fn a_status_tells_the_end()
     ensures whole { (output : Output) (source source' : SourceView) (sink sink' notes notes' : SinkView) (status : ℕ)
-        → EndsProgram output source source' sink sink' notes notes' status → status ≡ 0
+        → EndsProgram (Request.Text output) source source' sink sink' notes notes' status → status ≡ 0
         → (book : BookState) × (nodes : List (Node MemDisk)) × WritesText output source source' sink sink' book nodes }
     ensures refused { (output : Output) (source source' : SourceView) (sink sink' notes notes' : SinkView) (status : ℕ)
-        → EndsProgram output source source' sink sink' notes notes' status → status ≡ 2
+        → EndsProgram (Request.Text output) source source' sink sink' notes notes' status → status ≡ 2
         → (sink' ≡ sink) × (refusal : Refusal) × IsRefused output source source' refusal × IsNoted notes notes' (refusal_note refusal) }
     ensures read_fault { (output : Output) (source source' : SourceView) (sink sink' notes notes' : SinkView) (status : ℕ)
-        → EndsProgram output source source' sink sink' notes notes' status → status ≡ 3
+        → EndsProgram (Request.Text output) source source' sink sink' notes notes' status → status ≡ 3
         → (sink' ≡ sink) × Rose source.faults source'.faults }
     ensures write_fault { (output : Output) (source source' : SourceView) (sink sink' notes notes' : SinkView) (status : ℕ)
-        → EndsProgram output source source' sink sink' notes notes' status → status ≡ 4
+        → EndsProgram (Request.Text output) source source' sink sink' notes notes' status → status ≡ 4
         → (book : BookState) × (nodes : List (Node MemDisk)) × WritesSome output source source' sink sink' book nodes
         × Rose sink.faults sink'.faults }
     ensures memory { (output : Output) (source source' : SourceView) (sink sink' notes notes' : SinkView) (status : ℕ)
-        → EndsProgram output source source' sink sink' notes notes' status → status ≡ 5
+        → EndsProgram (Request.Text output) source source' sink sink' notes notes' status → status ≡ 5
         → (sink' ≡ sink) ⊎ ((book : BookState) × (nodes : List (Node MemDisk)) × WritesSome output source source' sink sink' book nodes) }
     ensures no_other { (output : Output) (source source' : SourceView) (sink sink' notes notes' : SinkView) (status : ℕ)
-        → EndsProgram output source source' sink sink' notes notes' status → status ≤ 5 }
+        → EndsProgram (Request.Text output) source source' sink sink' notes notes' status → status ≤ 5 }
     ensures note { (output : Output) (source source' : SourceView) (sink sink' notes notes' : SinkView) (status : ℕ)
-        → EndsProgram output source source' sink sink' notes notes' status → status ≢ 2 → IsNoted notes notes' (status_note status) }
+        → EndsProgram (Request.Text output) source source' sink sink' notes notes' status → status ≢ 2 → IsNoted notes notes' (status_note status) }
 {}
 
 /// If the source showed its bytes and no read failed, they decide the exit status, unless memory ran out: it is 0 of an input that suits
-/// what is asked for, if no write failed either, and 2 of any other.
+/// the text that is asked for, if no write failed either, and 2 of any other.
 pub fn the_bytes_decide_the_status()
     ensures text { (output : Output) (source source' : SourceView) (sink sink' notes notes' : SinkView) (status : ℕ) (bytes : List ℕ)
-        → EndsProgram output source source' sink sink' notes notes' status → source.left ≡ Some bytes → Suits output bytes
+        → EndsProgram (Request.Text output) source source' sink sink' notes notes' status → source.left ≡ Some bytes → Suits output bytes
         → ¬ Rose source.faults source'.faults → ¬ Rose sink.faults sink'.faults → (status ≡ 0) ⊎ (status ≡ 5) }
     ensures refused { (output : Output) (source source' : SourceView) (sink sink' notes notes' : SinkView) (status : ℕ) (bytes : List ℕ)
-        → EndsProgram output source source' sink sink' notes notes' status → source.left ≡ Some bytes → (Suits output bytes → ⊥)
+        → EndsProgram (Request.Text output) source source' sink sink' notes notes' status → source.left ≡ Some bytes → (Suits output bytes → ⊥)
         → ¬ Rose source.faults source'.faults → (status ≡ 2) ⊎ (status ≡ 5) }
     ensures made { (seed : ℕ) (source source' : SourceView) (sink sink' notes notes' : SinkView) (status : ℕ)
-        → EndsProgram (Output.Summary seed) source source' sink sink' notes notes' status → ¬ Rose sink.faults sink'.faults
+        → EndsProgram (Request.Text (Output.Summary seed)) source source' sink sink' notes notes' status → ¬ Rose sink.faults sink'.faults
         → (status ≡ 0) ⊎ (status ≡ 5) }
+{}
+
+/// What the exit status of a program says that was asked for an audit. 0: what the input has behind its run is the report and the
+/// journal of that run, and the line that says so was written, whole. 6: the report or the journal is at fault, and the line that says where
+/// was written, whole. 2: the input is refused, for what the note says. 3: a read failed. 4: a write failed, after a prefix of the line. 5:
+/// memory ran out. At 2, 3 and 5 nothing was written. There is no higher one.
+pub fn a_status_tells_of_an_audit()
+    ensures passes { (source source' : SourceView) (sink sink' notes notes' : SinkView) (status : ℕ)
+        → EndsProgram Request.Audit source source' sink sink' notes notes' status → status ≡ 0
+        → (book : BookState) × IsFoundOfInput source source' (Passes book) × HasGained sink sink' (audit_line (Passes book)) }
+    ensures fails { (source source' : SourceView) (sink sink' notes notes' : SinkView) (status : ℕ)
+        → EndsProgram Request.Audit source source' sink sink' notes notes' status → status ≡ 6
+        → (line : ℕ) × (fault : Fault) × IsFoundOfInput source source' (Fails line fault) × HasGained sink sink' (audit_line (Fails line fault)) }
+    ensures refused { (source source' : SourceView) (sink sink' notes notes' : SinkView) (status : ℕ)
+        → EndsProgram Request.Audit source source' sink sink' notes notes' status → status ≡ 2
+        → (sink' ≡ sink) × (refusal : Refusal) × IsRefusedByAudit source source' refusal × IsNoted notes notes' (refusal_note refusal) }
+    ensures read_fault { (source source' : SourceView) (sink sink' notes notes' : SinkView) (status : ℕ)
+        → EndsProgram Request.Audit source source' sink sink' notes notes' status → status ≡ 3
+        → (sink' ≡ sink) × Rose source.faults source'.faults }
+    ensures write_fault { (source source' : SourceView) (sink sink' notes notes' : SinkView) (status : ℕ)
+        → EndsProgram Request.Audit source source' sink sink' notes notes' status → status ≡ 4
+        → (finding : Finding) × IsFoundOfInput source source' finding × HasGainedPrefix sink sink' (audit_line finding)
+        × Rose sink.faults sink'.faults }
+    ensures memory { (source source' : SourceView) (sink sink' notes notes' : SinkView) (status : ℕ)
+        → EndsProgram Request.Audit source source' sink sink' notes notes' status → status ≡ 5 → sink' ≡ sink }
+    ensures no_other { (source source' : SourceView) (sink sink' notes notes' : SinkView) (status : ℕ)
+        → EndsProgram Request.Audit source source' sink sink' notes notes' status → status ≤ 6 }
+    ensures note { (source source' : SourceView) (sink sink' notes notes' : SinkView) (status : ℕ)
+        → EndsProgram Request.Audit source source' sink sink' notes notes' status → status ≢ 2 → IsNoted notes notes' (status_note status) }
+{}
+
+/// If the source showed its bytes and no read failed, they decide how an audit ends, unless memory ran out: if something is found of them
+/// and no write failed either, as it is of those whose run is taken, with its line and its status, and otherwise with status 2. Of bytes one
+/// line at most is found; they are refused for one thing at most, and not where something is found of them.
+pub fn the_bytes_decide_an_audit()
+    ensures found { (source source' : SourceView) (sink sink' notes notes' : SinkView) (status : ℕ) (bytes : List ℕ) (finding : Finding)
+        → EndsProgram Request.Audit source source' sink sink' notes notes' status → source.left ≡ Some bytes → IsAudited bytes finding
+        → ¬ Rose source.faults source'.faults → ¬ Rose sink.faults sink'.faults
+        → ((status ≡ audit_status finding) × HasGained sink sink' (audit_line finding)) ⊎ (status ≡ 5) }
+    ensures judged { (source source' : SourceView) (sink sink' notes notes' : SinkView) (status : ℕ) (bytes : List ℕ)
+        → EndsProgram Request.Audit source source' sink sink' notes notes' status → source.left ≡ Some bytes → HasRunToAudit bytes
+        → ¬ Rose source.faults source'.faults → ¬ Rose sink.faults sink'.faults → (status ≡ 0) ⊎ (status ≡ 6) ⊎ (status ≡ 5) }
+    ensures refused { (source source' : SourceView) (sink sink' notes notes' : SinkView) (status : ℕ) (bytes : List ℕ)
+        → EndsProgram Request.Audit source source' sink sink' notes notes' status → source.left ≡ Some bytes
+        → ((finding : Finding) → IsAudited bytes finding → ⊥) → ¬ Rose source.faults source'.faults → (status ≡ 2) ⊎ (status ≡ 5) }
+    ensures one_line { (bytes : List ℕ) (a b : Finding) → IsAudited bytes a → IsAudited bytes b
+        → (audit_status a ≡ audit_status b) × (audit_line a ≡ audit_line b) }
+    ensures one_refusal { (bytes : List ℕ) (a b : Refusal) → IsRefusedAuditInput bytes a → IsRefusedAuditInput bytes b → a ≡ b }
+    ensures not_both { (bytes : List ℕ) (finding : Finding) (refusal : Refusal) → IsAudited bytes finding → IsRefusedAuditInput bytes refusal → ⊥ }
 {}
 
 /// Words ask for one text at most: without a word for the report, by `--watch` for what was seen of the board after it, by `--journal`
 /// for the journal after these, by `--list` for the due instants, by `--check` for the check of the tables, by `--make` for the summary
-/// of the run that a seed makes, and by `--lanes` before or after these for a number of lanes. Options that may not stand together ask
-/// for nothing, nor does any other word.
+/// of the run that a seed makes, by `--audit` for an audit, and by `--lanes` before or after these for a number of lanes. Options that may
+/// not stand together ask for nothing, nor does any other word.
 pub fn words_ask_for_one_text()
     ensures one { (words : List (List ℕ)) (a b : Asked) → Asks words a → Asks words b → a ≡ b }
     ensures none { (words : List (List ℕ)) (asked : Asked) → Asks words asked → HasNoOptions words → ⊥ }
     ensures lanes { (words : List (List ℕ)) (asked : Asked) → Asks words asked → (1 ≤ asked.lanes) × (asked.lanes ≤ 8) }
-    ensures report { (asked : Asked) → asked.output ≡ Output.Report false false → asked.lanes ≡ 1 → Asks [] asked }
-    ensures list { (asked : Asked) → asked.output ≡ Output.DueList → asked.lanes ≡ 1 → Asks (codes "--list" ∷ []) asked }
-    ensures check { (asked : Asked) → asked.output ≡ Output.Check → asked.lanes ≡ 1 → Asks (codes "--check" ∷ []) asked }
-    ensures journal { (asked : Asked) → asked.output ≡ Output.Report false true → asked.lanes ≡ 1 → Asks (codes "--journal" ∷ []) asked }
-    ensures watch { (asked : Asked) → asked.output ≡ Output.Report true false → asked.lanes ≡ 1 → Asks (codes "--watch" ∷ []) asked }
-    ensures both { (asked : Asked) → asked.output ≡ Output.Report true true → asked.lanes ≡ 1
+    ensures report { (asked : Asked) → asked.request ≡ Request.Text (Output.Report false false) → asked.lanes ≡ 1 → Asks [] asked }
+    ensures list { (asked : Asked) → asked.request ≡ Request.Text Output.DueList → asked.lanes ≡ 1 → Asks (codes "--list" ∷ []) asked }
+    ensures check { (asked : Asked) → asked.request ≡ Request.Text Output.Check → asked.lanes ≡ 1 → Asks (codes "--check" ∷ []) asked }
+    ensures audit { (asked : Asked) → asked.request ≡ Request.Audit → asked.lanes ≡ 1 → Asks (codes "--audit" ∷ []) asked }
+    ensures journal { (asked : Asked) → asked.request ≡ Request.Text (Output.Report false true) → asked.lanes ≡ 1
+        → Asks (codes "--journal" ∷ []) asked }
+    ensures watch { (asked : Asked) → asked.request ≡ Request.Text (Output.Report true false) → asked.lanes ≡ 1
+        → Asks (codes "--watch" ∷ []) asked }
+    ensures both { (asked : Asked) → asked.request ≡ Request.Text (Output.Report true true) → asked.lanes ≡ 1
         → Asks (codes "--watch" ∷ codes "--journal" ∷ []) asked × Asks (codes "--journal" ∷ codes "--watch" ∷ []) asked }
     ensures make { (asked : Asked) (seed : ℕ) (own : List (List ℕ)) → seed ≤ 4_294_967_295 → IsNameWithValue (codes "--make") (decimal seed) own
-        → asked.output ≡ Output.Summary seed → asked.lanes ≡ 1 → Asks own asked }
+        → asked.request ≡ Request.Text (Output.Summary seed) → asked.lanes ≡ 1 → Asks own asked }
     ensures on_lanes { (asked : Asked) (own : List (List ℕ)) → 1 ≤ asked.lanes → asked.lanes ≤ 8
-        → IsNameWithValue (codes "--lanes") (decimal asked.lanes) own → asked.output ≡ Output.Report false false → Asks own asked }
+        → IsNameWithValue (codes "--lanes") (decimal asked.lanes) own → asked.request ≡ Request.Text (Output.Report false false) → Asks own asked }
     ensures list_on_lanes { (asked : Asked) (own : List (List ℕ)) → 1 ≤ asked.lanes → asked.lanes ≤ 8
-        → IsNameWithValue (codes "--lanes") (decimal asked.lanes) own → asked.output ≡ Output.DueList
+        → IsNameWithValue (codes "--lanes") (decimal asked.lanes) own → asked.request ≡ Request.Text Output.DueList
         → Asks (codes "--list" ∷ own) asked × Asks (own ++ codes "--list" ∷ []) asked }
     ensures check_on_lanes { (asked : Asked) (own : List (List ℕ)) → 1 ≤ asked.lanes → asked.lanes ≤ 8
-        → IsNameWithValue (codes "--lanes") (decimal asked.lanes) own → asked.output ≡ Output.Check
+        → IsNameWithValue (codes "--lanes") (decimal asked.lanes) own → asked.request ≡ Request.Text Output.Check
         → Asks (codes "--check" ∷ own) asked × Asks (own ++ codes "--check" ∷ []) asked }
+    ensures audit_on_lanes { (asked : Asked) (own : List (List ℕ)) → 1 ≤ asked.lanes → asked.lanes ≤ 8
+        → IsNameWithValue (codes "--lanes") (decimal asked.lanes) own → asked.request ≡ Request.Audit
+        → Asks (codes "--audit" ∷ own) asked × Asks (own ++ codes "--audit" ∷ []) asked }
     ensures journal_on_lanes { (asked : Asked) (own : List (List ℕ)) → 1 ≤ asked.lanes → asked.lanes ≤ 8
-        → IsNameWithValue (codes "--lanes") (decimal asked.lanes) own → asked.output ≡ Output.Report false true
+        → IsNameWithValue (codes "--lanes") (decimal asked.lanes) own → asked.request ≡ Request.Text (Output.Report false true)
         → Asks (codes "--journal" ∷ own) asked × Asks (own ++ codes "--journal" ∷ []) asked }
     ensures watch_on_lanes { (asked : Asked) (own : List (List ℕ)) → 1 ≤ asked.lanes → asked.lanes ≤ 8
-        → IsNameWithValue (codes "--lanes") (decimal asked.lanes) own → asked.output ≡ Output.Report true false
+        → IsNameWithValue (codes "--lanes") (decimal asked.lanes) own → asked.request ≡ Request.Text (Output.Report true false)
         → Asks (codes "--watch" ∷ own) asked × Asks (own ++ codes "--watch" ∷ []) asked }
     ensures make_on_lanes { (asked : Asked) (seed : ℕ) (own other : List (List ℕ)) → 1 ≤ asked.lanes → asked.lanes ≤ 8
         → IsNameWithValue (codes "--lanes") (decimal asked.lanes) own → seed ≤ 4_294_967_295 → IsNameWithValue (codes "--make") (decimal seed) other
-        → asked.output ≡ Output.Summary seed → Asks (other ++ own) asked × Asks (own ++ other) asked }
+        → asked.request ≡ Request.Text (Output.Summary seed) → Asks (other ++ own) asked × Asks (own ++ other) asked }
     ensures apart { (first second : Choice) (own other behind : List (List ℕ)) → IsSpelledBy first own → IsSpelledBy second other
         → (MayStandTogether first second → ⊥) → HasNoOptions (own ++ (other ++ behind)) }
-    ensures others { (word : List ℕ) (words : List (List ℕ)) → word ≢ codes "--list" → word ≢ codes "--check" → word ≢ codes "--journal"
-        → word ≢ codes "--watch" → word ≢ codes "--lanes" → ((lanes : ℕ) → 1 ≤ lanes → lanes ≤ 8 → word ≢ codes "--lanes" ++ codes "=" ++ decimal lanes)
+    ensures others { (word : List ℕ) (words : List (List ℕ)) → word ≢ codes "--list" → word ≢ codes "--check" → word ≢ codes "--audit"
+        → word ≢ codes "--journal" → word ≢ codes "--watch" → word ≢ codes "--lanes"
+        → ((lanes : ℕ) → 1 ≤ lanes → lanes ≤ 8 → word ≢ codes "--lanes" ++ codes "=" ++ decimal lanes)
         → word ≢ codes "--make" → ((seed : ℕ) → seed ≤ 4_294_967_295 → word ≢ codes "--make" ++ codes "=" ++ decimal seed)
         → HasNoOptions (word ∷ words) }
 {}

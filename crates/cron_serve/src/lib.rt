@@ -1,7 +1,8 @@
 //! The program's answer: `run`, its one call, and `cron_cluster` within it. The options ask for one text at most
 //! (`Asks`; `words_ask_for_one_text`): without one for the report, by `--watch` for what was seen of a board after it
 //! and by `--journal` for the journal after these (`IsReportOf`), by `--list` or `--check` for the due list or the
-//! check, by `--make` for the summary of the run of a seed. Status, text and note are those of one end (`run`, clause
+//! check, by `--make` for the summary of the run of a seed; or for an audit of what the input has behind a run, by
+//! `--audit` (`EndsAudit`, `a_status_tells_of_an_audit`). Status, text and note are those of one end (`run`, clause
 //! `ends`: `EndsProgram`). At status 0 the sink gained exactly the text that was asked for, of the input that was read
 //! to its end or of the seed (`Ends`, `WritesText`). What a report promises is said in bytes and text alone (`run`,
 //! clause `report`: `ReportsInput`, `ReportsLaunches`; `a_report_tells_of_each_launch`). The book is that of the
@@ -18,6 +19,7 @@
 #![tactic(auto)]
 
 mod answer;
+mod auditing;
 mod laws;
 mod made;
 mod note;
@@ -33,12 +35,12 @@ pub use laws::{
     a_note_is_whole_unless_it_fails, a_refusal_is_that_of_the_bytes, a_report_tells_of_each_launch,
     a_run_ends_each_due_instant, a_run_holds_each_launch_once, a_run_keeps_dates_apart,
     a_run_leaves_its_nodes, a_run_without_commands_launches_each_due_instant,
-    a_status_tells_the_end, an_early_end_leaves_nothing, an_input_has_one_verdict,
-    no_end_takes_back, the_bytes_decide_the_end, the_bytes_decide_the_status,
-    words_ask_for_one_text,
+    a_status_tells_of_an_audit, a_status_tells_the_end, an_early_end_leaves_nothing,
+    an_input_has_one_verdict, no_end_takes_back, the_bytes_decide_an_audit,
+    the_bytes_decide_the_end, the_bytes_decide_the_status, words_ask_for_one_text,
 };
 pub use program::run;
 pub use run_end::RunEnd;
 pub use run_text::Refusal;
 pub use serve::cron_cluster;
-pub use words::{Asked, Choice, Output, read_words};
+pub use words::{Asked, Choice, Output, Request, read_words};

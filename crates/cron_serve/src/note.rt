@@ -32,7 +32,7 @@ fn status_note(status: u8) -> &'static str
 {
     match status {
         1 =>
-            "cron_cluster: usage: cron_cluster [--journal] [--lanes N] [--make SEED] [--list] [--check] [--watch]\n",
+            "cron_cluster: usage: cron_cluster [--journal] [--lanes N] [--make SEED] [--list] [--check] [--watch] [--audit]\n",
         3 => "cron_cluster: read fault\n",
         4 => "cron_cluster: write fault\n",
         5 => "cron_cluster: out of memory\n",

@@ -9,6 +9,7 @@ ghost use Rattle.cron_serve.specs.Stop.{StopsAtOnce, status_of};
 ghost use Rattle.cron_serve.specs.Words.{Asks, HasNoOptions, behind_name, texts_of};
 ghost use Rattle.cron_serve.specs.declared.words.Asked.{Asked};
 ghost use Rattle.cron_serve.specs.declared.words.Output.{Output};
+ghost use Rattle.cron_serve.specs.declared.words.Request.{Request};
 
 use crate::note::write_note;
 use crate::run_end::RunEnd;
@@ -36,12 +37,12 @@ pub fn run<S: Source, K: Sink, E: Sink, R: Threads + Wait + Sync, G: TurnGate + 
 ) -> u8
     // **If the words ask for the report alone, status 0 says**: the input was read, it is a run, and the text gained is the report of its launches.
     ensures report { IfOk args (λ args. (asked : Asked) → Asks (behind_name (texts_of (into_iter_items args))) asked
-        → asked.output ≡ Output.Report false false → result ≡ 0
+        → asked.request ≡ Request.Text (Output.Report false false) → result ≡ 0
         → ReportsInput (S.seen source.old) (S.seen source.new) (K.seen sink.old) (K.seen sink.new)) }
 
-    // The status, the text that the words behind the name ask for, and the note are those of one end.
+    // The status, what the words behind the name ask for, and the note are those of one end.
     ensures ends { IfOk args (λ args. (asked : Asked) → Asks (behind_name (texts_of (into_iter_items args))) asked
-        → EndsProgram asked.output (S.seen source.old) (S.seen source.new) (K.seen sink.old) (K.seen sink.new)
+        → EndsProgram asked.request (S.seen source.old) (S.seen source.new) (K.seen sink.old) (K.seen sink.new)
         (E.seen notes.old) (E.seen notes.new) result) }
 
     // Status 1: the words behind the name ask for nothing, or one of them is no text. Then nothing is read or written.

@@ -12,12 +12,13 @@ use world_law::Book;
 /// How the program ended, and what it leaves.
 #[derive(Drop)]
 pub struct RunEnd {
-    /// The exit status: 0 for a text that was written whole, 1 for a faulty command line, 2 for an input that was
-    /// refused, 3 for a read fault, 4 for a write fault, 5 for want of memory.
+    /// The exit status: 0 for a text that was written whole, or an audit that passed, 1 for a faulty command line, 2 for an
+    /// input that was refused, 3 for a read fault, 4 for a write fault, 5 for want of memory, 6 for an audit that failed.
     pub status: u8,
     /// Why the input was refused, at status 2.
     pub refusal: Option<Refusal>,
-    /// The book of the run, where a text of it was written or begun. Otherwise it is empty.
+    /// The book of the run, where a text of it was written or begun, and that of the journal that passed an audit. Otherwise
+    /// it is empty.
     pub book: Book,
     /// The nodes of the run's replicas after it, in order of number, where a text of it was written or begun. Otherwise
     /// there are none.

@@ -9,7 +9,7 @@ use std::env::Args;
 /// The most lanes that may be asked for.
 const MAX_LANES: u32 = 8;
 
-/// What the program writes.
+/// A text that the program writes of a run.
 #[derive(Clone, Copy, Debug, PartialEq, Eq)]
 pub enum Output {
     /// The report of the launches that the run makes, and after it what else is asked for of the run.
@@ -27,11 +27,20 @@ pub enum Output {
     Summary(u32),
 }
 
+/// What the program is asked for.
+#[derive(Clone, Copy, Debug, PartialEq, Eq)]
+pub enum Request {
+    /// This text.
+    Text(Output),
+    /// An audit: whether the report and the journal that the input has behind its run are of that run.
+    Audit,
+}
+
 /// What the words of the command line ask for.
 #[derive(Clone, Copy, Debug, PartialEq, Eq)]
 pub struct Asked {
-    /// What is written.
-    pub output: Output,
+    /// What is asked for.
+    pub request: Request,
     /// How many lanes share out the work of a round, 1 to 8.
     pub lanes: u8,
 }
@@ -43,6 +52,8 @@ pub enum Choice {
     List,
     /// `--check`: the check of the tables is wanted.
     Check,
+    /// `--audit`: the audit is wanted of what the input has behind its run.
+    Audit,
     /// `--journal`: the journal is wanted after the report.
     Journal,
     /// `--watch`: what is seen of the board of launches is wanted after the report.
@@ -64,6 +75,7 @@ impl Choice {
         match word {
             "--list" => Some(Choice::List),
             "--check" => Some(Choice::Check),
+            "--audit" => Some(Choice::Audit),
             "--journal" => Some(Choice::Journal),
             "--watch" => Some(Choice::Watch),
             "--lanes" => {
@@ -116,8 +128,8 @@ fn read_lanes(text: &str) -> Option<u8>
 // What the options before a word ask for.
 #[derive(Clone, Copy)]
 struct Wishes {
-    // A text in place of a report.
-    text: Option<Output>,
+    // What is asked for in place of a report.
+    instead: Option<Request>,
     watch: bool,
     journal: bool,
     lanes: Option<u8>,
@@ -131,37 +143,38 @@ impl Wishes {
             → AllPairs MayStandTogether (before ++ choice ∷ behind) → ⊥) }
     {
         match choice {
-            Choice::List => self.with_text(Output::DueList),
-            Choice::Check => self.with_text(Output::Check),
-            Choice::Make(seed) => self.with_text(Output::Summary(seed)),
+            Choice::List => self.with_request(Request::Text(Output::DueList)),
+            Choice::Check => self.with_request(Request::Text(Output::Check)),
+            Choice::Audit => self.with_request(Request::Audit),
+            Choice::Make(seed) => self.with_request(Request::Text(Output::Summary(seed))),
             Choice::Journal => self.with_journal(),
             Choice::Watch => self.with_watch(),
             Choice::Lanes(lanes) => self.with_lanes(lanes),
         }
     }
 
-    // A text in place of a report, beside nothing that a report is asked for with.
-    fn with_text(self, text: Output) -> Option<Wishes>
-        ensures some { IfSome result (λ wishes. (self.text ≡ None) × (self.watch ≡ false) × (self.journal ≡ false)
-            × (wishes ≡ record self { text = Some text })) }
-        ensures none { IfNone result (IsSome self.text ⊎ (self.watch ≡ true) ⊎ (self.journal ≡ true)) }
+    // What is asked for in place of a report, beside nothing that a report is asked for with.
+    fn with_request(self, request: Request) -> Option<Wishes>
+        ensures some { IfSome result (λ wishes. (self.instead ≡ None) × (self.watch ≡ false) × (self.journal ≡ false)
+            × (wishes ≡ record self { instead = Some request })) }
+        ensures none { IfNone result (IsSome self.instead ⊎ (self.watch ≡ true) ⊎ (self.journal ≡ true)) }
     {
-        match self.text {
+        match self.instead {
             Some(_) => None,
             None if self.watch => None,
             None if self.journal => None,
             None => Some(Wishes {
-                text: Some(text),
+                instead: Some(request),
                 ..self
             }),
         }
     }
 
     fn with_journal(self) -> Option<Wishes>
-        ensures some { IfSome result (λ wishes. (self.text ≡ None) × (self.journal ≡ false) × (wishes ≡ record self { journal = true })) }
-        ensures none { IfNone result (IsSome self.text ⊎ (self.journal ≡ true)) }
+        ensures some { IfSome result (λ wishes. (self.instead ≡ None) × (self.journal ≡ false) × (wishes ≡ record self { journal = true })) }
+        ensures none { IfNone result (IsSome self.instead ⊎ (self.journal ≡ true)) }
     {
-        match self.text {
+        match self.instead {
             Some(_) => None,
             None if self.journal => None,
             None => Some(Wishes {
@@ -172,10 +185,10 @@ impl Wishes {
     }
 
     fn with_watch(self) -> Option<Wishes>
-        ensures some { IfSome result (λ wishes. (self.text ≡ None) × (self.watch ≡ false) × (wishes ≡ record self { watch = true })) }
-        ensures none { IfNone result (IsSome self.text ⊎ (self.watch ≡ true)) }
+        ensures some { IfSome result (λ wishes. (self.instead ≡ None) × (self.watch ≡ false) × (wishes ≡ record self { watch = true })) }
+        ensures none { IfNone result (IsSome self.instead ⊎ (self.watch ≡ true)) }
     {
-        match self.text {
+        match self.instead {
             Some(_) => None,
             None if self.watch => None,
             None => Some(Wishes {
@@ -199,7 +212,7 @@ impl Wishes {
     }
 
     fn asked(self) -> Asked
-        ensures output { result.output ≡ unwrap_or self.text (Output.Report self.watch self.journal) }
+        ensures request { result.request ≡ unwrap_or self.instead (Request.Text (Output.Report self.watch self.journal)) }
         ensures lanes { result.lanes ≡ unwrap_or self.lanes 1 }
     {
         let report = Output::Report {
@@ -207,7 +220,7 @@ impl Wishes {
             journal: self.journal,
         };
         Asked {
-            output: self.text.unwrap_or(report),
+            request: self.instead.unwrap_or(Request::Text(report)),
             lanes: self.lanes.unwrap_or(1),
         }
     }
@@ -220,7 +233,7 @@ pub fn read_words(mut words: Args) -> Option<Asked>
     ensures none { IfNone result (HasNoOptions (texts_of (into_iter_items words))) }
 {
     let mut wishes = Wishes {
-        text: None,
+        instead: None,
         watch: false,
         journal: false,
         lanes: None,

@@ -9,42 +9,48 @@ returns c = record {
   one = asks_one;
   none = λ words asked asks nothing. nothing asks.0 asks.1;
   lanes = asks_lanes;
-  report = λ asked output lanes. asks_none [] asked refl output lanes;
-  list = λ asked output lanes. asks_alone choice.List _ asked refl output lanes;
-  check = λ asked output lanes. asks_alone choice.Check _ asked refl output lanes;
-  journal = λ asked output lanes. asks_alone choice.Journal _ asked refl output lanes;
-  watch = λ asked output lanes. asks_alone choice.Watch _ asked refl output lanes;
-  both = λ asked output lanes. (
-    asks_both choice.Watch choice.Journal (codes "--watch" ∷ []) (codes "--journal" ∷ []) asked refl refl tt (same_asked _ _ output lanes),
-    asks_both choice.Journal choice.Watch (codes "--journal" ∷ []) (codes "--watch" ∷ []) asked refl refl tt (same_asked _ _ output lanes),
+  report = λ asked request lanes. asks_none [] asked refl request lanes;
+  list = λ asked request lanes. asks_alone choice.List _ asked refl request lanes;
+  check = λ asked request lanes. asks_alone choice.Check _ asked refl request lanes;
+  audit = λ asked request lanes. asks_alone choice.Audit _ asked refl request lanes;
+  journal = λ asked request lanes. asks_alone choice.Journal _ asked refl request lanes;
+  watch = λ asked request lanes. asks_alone choice.Watch _ asked refl request lanes;
+  both = λ asked request lanes. (
+    asks_both choice.Watch choice.Journal (codes "--watch" ∷ []) (codes "--journal" ∷ []) asked refl refl tt (same_asked _ _ request lanes),
+    asks_both choice.Journal choice.Watch (codes "--journal" ∷ []) (codes "--watch" ∷ []) asked refl refl tt (same_asked _ _ request lanes),
   );
-  make = λ asked seed own most spelled output lanes. asks_alone (choice.Make seed) own asked (most, spelled) output lanes;
-  on_lanes = λ asked own some most spelled output. asks_alone (choice.Lanes asked.lanes) own asked (some, most, spelled) output refl;
-  list_on_lanes = λ asked own some most spelled output. (
-    asks_both choice.List (choice.Lanes asked.lanes) (codes "--list" ∷ []) own asked refl (some, most, spelled) tt (same_asked _ _ output refl),
-    asks_both (choice.Lanes asked.lanes) choice.List own (codes "--list" ∷ []) asked (some, most, spelled) refl tt (same_asked _ _ output refl),
+  make = λ asked seed own most spelled request lanes. asks_alone (choice.Make seed) own asked (most, spelled) request lanes;
+  on_lanes = λ asked own some most spelled request. asks_alone (choice.Lanes asked.lanes) own asked (some, most, spelled) request refl;
+  list_on_lanes = λ asked own some most spelled request. (
+    asks_both choice.List (choice.Lanes asked.lanes) (codes "--list" ∷ []) own asked refl (some, most, spelled) tt (same_asked _ _ request refl),
+    asks_both (choice.Lanes asked.lanes) choice.List own (codes "--list" ∷ []) asked (some, most, spelled) refl tt (same_asked _ _ request refl),
   );
-  check_on_lanes = λ asked own some most spelled output. (
-    asks_both choice.Check (choice.Lanes asked.lanes) (codes "--check" ∷ []) own asked refl (some, most, spelled) tt (same_asked _ _ output refl),
-    asks_both (choice.Lanes asked.lanes) choice.Check own (codes "--check" ∷ []) asked (some, most, spelled) refl tt (same_asked _ _ output refl),
+  check_on_lanes = λ asked own some most spelled request. (
+    asks_both choice.Check (choice.Lanes asked.lanes) (codes "--check" ∷ []) own asked refl (some, most, spelled) tt (same_asked _ _ request refl),
+    asks_both (choice.Lanes asked.lanes) choice.Check own (codes "--check" ∷ []) asked (some, most, spelled) refl tt (same_asked _ _ request refl),
   );
-  journal_on_lanes = λ asked own some most spelled output. (
-    asks_both choice.Journal (choice.Lanes asked.lanes) (codes "--journal" ∷ []) own asked refl (some, most, spelled) tt (same_asked _ _ output refl),
-    asks_both (choice.Lanes asked.lanes) choice.Journal own (codes "--journal" ∷ []) asked (some, most, spelled) refl tt (same_asked _ _ output refl),
+  audit_on_lanes = λ asked own some most spelled request. (
+    asks_both choice.Audit (choice.Lanes asked.lanes) (codes "--audit" ∷ []) own asked refl (some, most, spelled) tt (same_asked _ _ request refl),
+    asks_both (choice.Lanes asked.lanes) choice.Audit own (codes "--audit" ∷ []) asked (some, most, spelled) refl tt (same_asked _ _ request refl),
   );
-  watch_on_lanes = λ asked own some most spelled output. (
-    asks_both choice.Watch (choice.Lanes asked.lanes) (codes "--watch" ∷ []) own asked refl (some, most, spelled) tt (same_asked _ _ output refl),
-    asks_both (choice.Lanes asked.lanes) choice.Watch own (codes "--watch" ∷ []) asked (some, most, spelled) refl tt (same_asked _ _ output refl),
+  journal_on_lanes = λ asked own some most spelled request. (
+    asks_both choice.Journal (choice.Lanes asked.lanes) (codes "--journal" ∷ []) own asked refl (some, most, spelled) tt (same_asked _ _ request refl),
+    asks_both (choice.Lanes asked.lanes) choice.Journal own (codes "--journal" ∷ []) asked (some, most, spelled) refl tt (same_asked _ _ request refl),
   );
-  make_on_lanes = λ asked seed own other some most spelled below made output. (
-    asks_both (choice.Make seed) (choice.Lanes asked.lanes) other own asked (below, made) (some, most, spelled) tt (same_asked _ _ output refl),
-    asks_both (choice.Lanes asked.lanes) (choice.Make seed) own other asked (some, most, spelled) (below, made) tt (same_asked _ _ output refl),
+  watch_on_lanes = λ asked own some most spelled request. (
+    asks_both choice.Watch (choice.Lanes asked.lanes) (codes "--watch" ∷ []) own asked refl (some, most, spelled) tt (same_asked _ _ request refl),
+    asks_both (choice.Lanes asked.lanes) choice.Watch own (codes "--watch" ∷ []) asked (some, most, spelled) refl tt (same_asked _ _ request refl),
+  );
+  make_on_lanes = λ asked seed own other some most spelled below made request. (
+    asks_both (choice.Make seed) (choice.Lanes asked.lanes) other own asked (below, made) (some, most, spelled) tt (same_asked _ _ request refl),
+    asks_both (choice.Lanes asked.lanes) (choice.Make seed) own other asked (some, most, spelled) (below, made) tt (same_asked _ _ request refl),
   );
   apart = asks_clash;
-  others = λ word words list check journal watch lanes with_lanes make with_seed.
+  others = λ word words list check audit journal watch lanes with_lanes make with_seed.
       asks_unknown word words (record {
         list = list;
         check = check;
+        audit = audit;
         journal = journal;
         watch = watch;
         lanes = lanes;

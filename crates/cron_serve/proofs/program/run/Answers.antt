@@ -8,7 +8,7 @@ pub returns-in-Ok-clause-report : goal.returns-in-Ok-clause-report
 returns-in-Ok-clause-report g c = rw c.in-Ok.is (λ asked asks report zero.
     let asks_there = subst (λ words. Asks words asked) (sym (behind_first c.in-Ok.words c.next-name.new.self c.next-name.result c.next-name.ensures.cases)) asks in
     reports_end (g.S.Source.seen c.args.source.now) (g.S.Source.seen c.cron_cluster.new.source) (g.K.Sink.seen c.args.sink.now) (g.K.Sink.seen c.cron_cluster.new.sink)
-    c.cron_cluster.result asked.output report (c.cron_cluster.ensures.ends asked asks_there) zero)
+    c.cron_cluster.result asked.request report (c.cron_cluster.ensures.ends asked asks_there) zero)
 
 pub returns-in-Ok-clause-ends : goal.returns-in-Ok-clause-ends
 returns-in-Ok-clause-ends g c = rw c.in-Ok.is (λ asked asks.

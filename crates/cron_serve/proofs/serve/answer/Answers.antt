@@ -6,7 +6,7 @@ use Rattle.cron_serve.proofs.serve.answer.Goals as goal
 
 pub returns-clause-end : goal.returns-clause-end
 returns-clause-end g c =
-    let output = c.args.asked.output in
+    let output = c.args.output in
     let bytes = c.in_ok-bytes.bytes.items in
     let end = c.in_ok-end.end in
     let read = c.in_ok-bytes.ensures in

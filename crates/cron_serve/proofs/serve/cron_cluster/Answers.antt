@@ -1,6 +1,5 @@
 use Rattle.std.proofs.Common.{◌∙◌, ap, subst, sym}
-use Rattle.cron_serve.specs.Complete.{Completes}
-use Rattle.cron_serve.specs.Ends.{Ends}
+use Rattle.cron_serve.specs.Served.{CompletesFor, EndsFor}
 use Rattle.cron_serve.specs.declared.words.Asked.{Asked}
 use Rattle.cron_serve.proofs.ServeLemmas.{ends_unread}
 use Rattle.cron_serve.proofs.WordLemmas.{asks_one, asks_some_lanes}
@@ -14,7 +13,7 @@ pub returns-clause-ends : goal.returns-clause-ends
 returns-clause-ends g c = λ asked asks.
     elim c.match-read_words.branch [
       | in-Some w ↦ rw w.end-is (rw w.source-is (rw w.sink-is
-          (subst (λ (a : Asked). Ends a.output (g.S.Source.seen c.args.source.now) (g.S.Source.seen w.serve-end.new.source) (g.K.Sink.seen c.args.sink.now) (g.K.Sink.seen w.serve-end.new.sink) w.serve-end.result) (asks_one _ w.in-Some.asked asked w.in-Some.ensures.asks asks) w.serve-end.ensures.end.ends)))
+          (subst (λ (a : Asked). EndsFor a.request (g.S.Source.seen c.args.source.now) (g.S.Source.seen w.serve-end.new.source) (g.K.Sink.seen c.args.sink.now) (g.K.Sink.seen w.serve-end.new.sink) w.serve-end.result) (asks_one _ w.in-Some.asked asked w.in-Some.ensures.asks asks) w.serve-end.ensures.end.ends)))
       | in-None w ↦ absurd (w.in-None.ensures.none asks.0 asks.1)
     ]
 
@@ -22,7 +21,7 @@ pub returns-clause-complete : goal.returns-clause-complete
 returns-clause-complete g c = λ asked asks.
     elim c.match-read_words.branch [
       | in-Some w ↦ rw w.end-is (rw w.source-is (rw w.sink-is
-          (subst (λ (a : Asked). Completes a.output (g.S.Source.seen c.args.source.now) (g.S.Source.seen w.serve-end.new.source) (g.K.Sink.seen c.args.sink.now) (g.K.Sink.seen w.serve-end.new.sink) w.serve-end.result) (asks_one _ w.in-Some.asked asked w.in-Some.ensures.asks asks) w.serve-end.ensures.end.complete)))
+          (subst (λ (a : Asked). CompletesFor a.request (g.S.Source.seen c.args.source.now) (g.S.Source.seen w.serve-end.new.source) (g.K.Sink.seen c.args.sink.now) (g.K.Sink.seen w.serve-end.new.sink) w.serve-end.result) (asks_one _ w.in-Some.asked asked w.in-Some.ensures.asks asks) w.serve-end.ensures.end.complete)))
       | in-None w ↦ absurd (w.in-None.ensures.none asks.0 asks.1)
     ]
 
@@ -37,6 +36,6 @@ returns-clause-unread g c = λ one.
 pub returns-clause-made : goal.returns-clause-made
 returns-clause-made g c = λ asked seed asks is.
     elim c.match-read_words.branch [
-      | in-Some w ↦ rw w.source-is (w.serve-end.ensures.made seed (ap (λ (a : Asked). a.output) (asks_one _ w.in-Some.asked asked w.in-Some.ensures.asks asks) ∙ is))
+      | in-Some w ↦ rw w.source-is (w.serve-end.ensures.made seed (ap (λ (a : Asked). a.request) (asks_one _ w.in-Some.asked asked w.in-Some.ensures.asks asks) ∙ is))
       | in-None w ↦ absurd (w.in-None.ensures.none asks.0 asks.1)
     ]

@@ -24,4 +24,4 @@ words-preserved c =
 
 pub returns-clause-asks : goal.returns-clause-asks
 returns-clause-asks c =
-    all_read _ _ c.words.wishes c.asked.result c.words.invariant (no_word_left c.words.words c.in_default.ensures.cases.0) c.asked.ensures.output c.asked.ensures.lanes
+    all_read _ _ c.words.wishes c.asked.result c.words.invariant (no_word_left c.words.words c.in_default.ensures.cases.0) c.asked.ensures.request c.asked.ensures.lanes

@@ -1,39 +1,49 @@
 use Rattle.std.proofs.Common.{refl}
 use Rattle.cron_serve.specs.declared.words.Choice.TheVariants as choice
 use Rattle.cron_serve.specs.declared.words.Output.TheVariants.{DueList, Check, Summary}
-use Rattle.cron_serve.proofs.WishLemmas.{clashes, goes_on, journal_clashes, lanes_clash, text_clashes, watch_clashes, with_journal, with_lanes, with_text, with_watch}
+use Rattle.cron_serve.specs.declared.words.Request.TheVariants.{Text, Audit}
+use Rattle.cron_serve.proofs.WishLemmas.{clashes, goes_on, journal_clashes, lanes_clash, request_clashes, watch_clashes, with_journal, with_lanes, with_request, with_watch}
 use Rattle.cron_serve.proofs.words.Wishes.with.Goals as goal
 
 pub returns-in-List-clause-some : goal.returns-in-List-clause-some
 returns-in-List-clause-some c =
-    goes_on choice.List c.args.choice c.args.self c.with_text.result _ c.in-List.is
-    (λ new is. with_text choice.List DueList c.args.self new (record { asked = refl; no_lanes = refl; no_watch = refl; no_journal = refl }) is) c.with_text.ensures.some
+    goes_on choice.List c.args.choice c.args.self c.with_request.result _ c.in-List.is
+    (λ new is. with_request choice.List (Text DueList) c.args.self new (record { asked = refl; no_lanes = refl; no_watch = refl; no_journal = refl }) is) c.with_request.ensures.some
 
 pub returns-in-List-clause-none : goal.returns-in-List-clause-none
 returns-in-List-clause-none c =
-    clashes choice.List c.args.choice c.args.self c.with_text.result _ c.in-List.is (text_clashes choice.List c.args.self refl) c.with_text.ensures.none
+    clashes choice.List c.args.choice c.args.self c.with_request.result _ c.in-List.is (request_clashes choice.List c.args.self refl) c.with_request.ensures.none
 
 pub returns-in-Check-clause-some : goal.returns-in-Check-clause-some
 returns-in-Check-clause-some c =
-    goes_on choice.Check c.args.choice c.args.self c.with_text-in-Check.result _ c.in-Check.is
-    (λ new is. with_text choice.Check Check c.args.self new (record { asked = refl; no_lanes = refl; no_watch = refl; no_journal = refl }) is) c.with_text-in-Check.ensures.some
+    goes_on choice.Check c.args.choice c.args.self c.with_request-in-Check.result _ c.in-Check.is
+    (λ new is. with_request choice.Check (Text Check) c.args.self new (record { asked = refl; no_lanes = refl; no_watch = refl; no_journal = refl }) is) c.with_request-in-Check.ensures.some
 
 pub returns-in-Check-clause-none : goal.returns-in-Check-clause-none
 returns-in-Check-clause-none c =
-    clashes choice.Check c.args.choice c.args.self c.with_text-in-Check.result _ c.in-Check.is (text_clashes choice.Check c.args.self refl) c.with_text-in-Check.ensures.none
+    clashes choice.Check c.args.choice c.args.self c.with_request-in-Check.result _ c.in-Check.is (request_clashes choice.Check c.args.self refl) c.with_request-in-Check.ensures.none
+
+pub returns-in-Audit-clause-some : goal.returns-in-Audit-clause-some
+returns-in-Audit-clause-some c =
+    goes_on choice.Audit c.args.choice c.args.self c.with_request-in-Audit.result _ c.in-Audit.is
+    (λ new is. with_request choice.Audit Audit c.args.self new (record { asked = refl; no_lanes = refl; no_watch = refl; no_journal = refl }) is) c.with_request-in-Audit.ensures.some
+
+pub returns-in-Audit-clause-none : goal.returns-in-Audit-clause-none
+returns-in-Audit-clause-none c =
+    clashes choice.Audit c.args.choice c.args.self c.with_request-in-Audit.result _ c.in-Audit.is (request_clashes choice.Audit c.args.self refl) c.with_request-in-Audit.ensures.none
 
 pub returns-in-Make-clause-some : goal.returns-in-Make-clause-some
 returns-in-Make-clause-some c =
     let seed = c.in-Make.seed in
-    goes_on (choice.Make seed) c.args.choice c.args.self c.with_text-in-Make.result _ c.in-Make.is
-    (λ new is. with_text (choice.Make seed) (Summary seed) c.args.self new (record { asked = refl; no_lanes = refl; no_watch = refl; no_journal = refl }) is)
-    c.with_text-in-Make.ensures.some
+    goes_on (choice.Make seed) c.args.choice c.args.self c.with_request-in-Make.result _ c.in-Make.is
+    (λ new is. with_request (choice.Make seed) (Text (Summary seed)) c.args.self new (record { asked = refl; no_lanes = refl; no_watch = refl; no_journal = refl }) is)
+    c.with_request-in-Make.ensures.some
 
 pub returns-in-Make-clause-none : goal.returns-in-Make-clause-none
 returns-in-Make-clause-none c =
     let seed = c.in-Make.seed in
-    clashes (choice.Make seed) c.args.choice c.args.self c.with_text-in-Make.result _ c.in-Make.is (text_clashes (choice.Make seed) c.args.self refl)
-    c.with_text-in-Make.ensures.none
+    clashes (choice.Make seed) c.args.choice c.args.self c.with_request-in-Make.result _ c.in-Make.is (request_clashes (choice.Make seed) c.args.self refl)
+    c.with_request-in-Make.ensures.none
 
 pub returns-in-Journal-clause-some : goal.returns-in-Journal-clause-some
 returns-in-Journal-clause-some c =

@@ -1,5 +1,5 @@
 use Rattle.cron_serve.proofs.ServeLemmas.{serving_made}
-use Rattle.cron_serve.proofs.serve.serve.Goals as goal
+use Rattle.cron_serve.proofs.serve.serve_text.Goals as goal
 
 pub returns-in-Some-clause-end : goal.returns-in-Some-clause-end
 returns-in-Some-clause-end g c =
