@@ -242,7 +242,7 @@ end
 pub const TOO_LARGE: &str = "cron_cluster: line 0: cause 33 at 0\n";
 
 pub const USAGE: &str =
-    "cron_cluster: usage: cron_cluster [--journal] [--lanes N] [--make SEED] [--list] [--check] [--watch]\n";
+    "cron_cluster: usage: cron_cluster [--journal] [--lanes N] [--make SEED] [--list] [--check] [--watch] [--audit]\n";
 
 /// The first byte of its second line is none of UTF-8.
 pub const NOT_TEXT: &[u8] = b"cronrun 1\n\xff\n";

@@ -1,7 +1,7 @@
 //! What the words of a command line ask for, and which are at fault.
 use crate::program::{args_of, play};
 use crate::runs::{THREE_LAUNCHES, USAGE};
-use cron_serve::{Asked, Output, read_words};
+use cron_serve::{Asked, Output, Request, read_words};
 use std::alloc::Global;
 use std::env::Args;
 use std::test::Fail;
@@ -13,182 +13,197 @@ fn words_of(alloc: Global, words: &[&str]) -> Result<Args, Fail> {
     Ok(args)
 }
 
-// Words, what they ask to be written, and on how many lanes.
+// Words, what they ask for, and on how many lanes.
 struct Row {
     words: &'static [&'static str],
-    output: Output,
+    request: Request,
     lanes: u8,
 }
 
-const REPORT: Output = Output::Report {
+const REPORT: Request = Request::Text(Output::Report {
     watch: false,
     journal: false,
-};
+});
 
-const JOURNAL: Output = Output::Report {
+const JOURNAL: Request = Request::Text(Output::Report {
     watch: false,
     journal: true,
-};
+});
 
-const WATCH: Output = Output::Report {
+const WATCH: Request = Request::Text(Output::Report {
     watch: true,
     journal: false,
-};
+});
 
-const BOTH: Output = Output::Report {
+const BOTH: Request = Request::Text(Output::Report {
     watch: true,
     journal: true,
-};
+});
 
 const ASKED: &[Row] = &[
     Row {
         words: &[],
-        output: REPORT,
+        request: REPORT,
         lanes: 1,
     },
     Row {
         words: &["--list"],
-        output: Output::DueList,
+        request: Request::Text(Output::DueList),
         lanes: 1,
     },
     Row {
         words: &["--check"],
-        output: Output::Check,
+        request: Request::Text(Output::Check),
         lanes: 1,
     },
     Row {
+        words: &["--audit"],
+        request: Request::Audit,
+        lanes: 1,
+    },
+    Row {
+        words: &["--audit", "--lanes", "3"],
+        request: Request::Audit,
+        lanes: 3,
+    },
+    Row {
+        words: &["--lanes=3", "--audit"],
+        request: Request::Audit,
+        lanes: 3,
+    },
+    Row {
         words: &["--lanes", "1"],
-        output: REPORT,
+        request: REPORT,
         lanes: 1,
     },
     Row {
         words: &["--lanes", "8"],
-        output: REPORT,
+        request: REPORT,
         lanes: 8,
     },
     Row {
         words: &["--lanes=1"],
-        output: REPORT,
+        request: REPORT,
         lanes: 1,
     },
     Row {
         words: &["--lanes=8"],
-        output: REPORT,
+        request: REPORT,
         lanes: 8,
     },
     Row {
         words: &["--lanes", "3", "--list"],
-        output: Output::DueList,
+        request: Request::Text(Output::DueList),
         lanes: 3,
     },
     Row {
         words: &["--list", "--lanes", "3"],
-        output: Output::DueList,
+        request: Request::Text(Output::DueList),
         lanes: 3,
     },
     Row {
         words: &["--lanes=2", "--check"],
-        output: Output::Check,
+        request: Request::Text(Output::Check),
         lanes: 2,
     },
     Row {
         words: &["--check", "--lanes=2"],
-        output: Output::Check,
+        request: Request::Text(Output::Check),
         lanes: 2,
     },
     Row {
         words: &["--journal"],
-        output: JOURNAL,
+        request: JOURNAL,
         lanes: 1,
     },
     Row {
         words: &["--journal", "--lanes", "3"],
-        output: JOURNAL,
+        request: JOURNAL,
         lanes: 3,
     },
     Row {
         words: &["--lanes=3", "--journal"],
-        output: JOURNAL,
+        request: JOURNAL,
         lanes: 3,
     },
     Row {
         words: &["--watch"],
-        output: WATCH,
+        request: WATCH,
         lanes: 1,
     },
     Row {
         words: &["--watch", "--lanes", "3"],
-        output: WATCH,
+        request: WATCH,
         lanes: 3,
     },
     Row {
         words: &["--lanes", "3", "--watch"],
-        output: WATCH,
+        request: WATCH,
         lanes: 3,
     },
     Row {
         words: &["--watch", "--lanes=3"],
-        output: WATCH,
+        request: WATCH,
         lanes: 3,
     },
     Row {
         words: &["--lanes=3", "--watch"],
-        output: WATCH,
+        request: WATCH,
         lanes: 3,
     },
     Row {
         words: &["--watch", "--journal"],
-        output: BOTH,
+        request: BOTH,
         lanes: 1,
     },
     Row {
         words: &["--journal", "--watch"],
-        output: BOTH,
+        request: BOTH,
         lanes: 1,
     },
     Row {
         words: &["--watch", "--journal", "--lanes", "3"],
-        output: BOTH,
+        request: BOTH,
         lanes: 3,
     },
     Row {
         words: &["--journal", "--lanes=3", "--watch"],
-        output: BOTH,
+        request: BOTH,
         lanes: 3,
     },
     Row {
         words: &["--lanes=3", "--watch", "--journal"],
-        output: BOTH,
+        request: BOTH,
         lanes: 3,
     },
     Row {
         words: &["--make", "7"],
-        output: Output::Summary(7),
+        request: Request::Text(Output::Summary(7)),
         lanes: 1,
     },
     Row {
         words: &["--make=7"],
-        output: Output::Summary(7),
+        request: Request::Text(Output::Summary(7)),
         lanes: 1,
     },
     Row {
         words: &["--make", "0"],
-        output: Output::Summary(0),
+        request: Request::Text(Output::Summary(0)),
         lanes: 1,
     },
     Row {
         words: &["--make=4294967295"],
-        output: Output::Summary(4_294_967_295),
+        request: Request::Text(Output::Summary(4_294_967_295)),
         lanes: 1,
     },
     Row {
         words: &["--make", "7", "--lanes", "2"],
-        output: Output::Summary(7),
+        request: Request::Text(Output::Summary(7)),
         lanes: 2,
     },
     Row {
         words: &["--lanes=2", "--make=7"],
-        output: Output::Summary(7),
+        request: Request::Text(Output::Summary(7)),
         lanes: 2,
     },
 ];
@@ -198,7 +213,7 @@ fn words_ask(rt: HostRuntime) -> Result<(), Fail> {
     let mut ok = true;
     for row in ASKED {
         let asked = Asked {
-            output: row.output,
+            request: row.request,
             lanes: row.lanes,
         };
         ok &= read_words(words_of(rt.alloc(), row.words)?) == Some(asked);
@@ -297,6 +312,22 @@ const FAULTY: &[&[&str]] = &[
     &["--make=7", "--watch"],
     &["--journal", "--watch", "--list"],
     &["--check", "--watch", "--journal"],
+    // An audit beside something else than lanes, or twice.
+    &["--audit="],
+    &["--audits"],
+    &["--audit", "7"],
+    &["--lanes", "--audit"],
+    &["--make", "--audit"],
+    &["--audit", "--audit"],
+    &["--audit", "--list"],
+    &["--check", "--audit"],
+    &["--audit", "--journal"],
+    &["--journal", "--audit"],
+    &["--audit", "--watch"],
+    &["--watch", "--audit"],
+    &["--audit", "--make=7"],
+    &["--make", "7", "--audit"],
+    &["--lanes=2", "--audit", "--lanes=2"],
 ];
 
 #[test]
