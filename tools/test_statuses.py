@@ -58,6 +58,7 @@ CALLS = [
     ("cron_cluster", f"< {FAULTY}", 2),
     ("cron_cluster", "< .", 3),
     ("cron_cluster", f"< {TAKEOVER} > /dev/full", 4),
+    ("cron_cluster", f"--audit < {TAKEOVER}", 6),
 ]
 
 

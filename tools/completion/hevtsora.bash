@@ -3,7 +3,7 @@
 # The options of a program.
 _hevtsora_options() {
   case $1 in
-    cron_cluster) echo --journal --watch --list --check --make --lanes ;;
+    cron_cluster) echo --journal --watch --list --check --audit --make --lanes ;;
     run_file) echo --root --from --days --until --grace --replicas --script --zone --zoneinfo --user --system --anacron --cron \
       --modes --skip --list --why --next --change --hints --json --csv --check --program --help --version ;;
     ran) echo --from --until --day --grace --late --year --json --root --zone --zoneinfo --user --system --anacron --cron --skip \
