@@ -28,9 +28,11 @@ same_length (line ∷ same) (second ∷ also) rest other more behind lines expec
     ap suc (same_length same also rest other more behind tails backs differ differs)
 
 -- the first line that differs is one
-pub one_difference : (lines expected : Lines) (number other : ℕ) → IsFirstDifference lines expected number → IsFirstDifference lines expected other → number ≡ other
+pub one_difference : (lines expected : Lines) (number other : ℕ) → IsFirstDifference lines expected number → IsFirstDifference lines expected other
+    → number ≡ other
 one_difference lines expected number other a b =
-    let size = same_length a.same b.same a.rest a.other b.rest b.other (sym a.lines_are ∙ b.lines_are) (sym a.expected_are ∙ b.expected_are) a.differ b.differ in
+    let size = same_length a.same b.same a.rest a.other b.rest b.other (sym a.lines_are ∙ b.lines_are)
+    (sym a.expected_are ∙ b.expected_are) a.differ b.differ in
     omega (arith, size, a.number_is, b.number_is)
 
 -- the same lines don't differ

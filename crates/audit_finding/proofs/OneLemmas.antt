@@ -33,7 +33,8 @@ use Rattle.audit_finding.proofs.DifferenceLemmas.{no_difference, one_difference}
 
 -- ---- what is found of one report and one journal
 
-module _ (run : Run) (table : Table) (report journal : List ℕ) (few : run.members ≤ 7) (limits : IsWithinLimits table.window) (short : length journal < 2 ^ 32) where
+module _ (run : Run) (table : Table) (report journal : List ℕ) (few : run.members ≤ 7) (limits : IsWithinLimits table.window)
+    (short : length journal < 2 ^ 32) where
   -- the books of a journal have the same turns
   same_turns : (book other : BookState) → IsJournalOf run table journal book → IsJournalOf run table journal other → book.turns ≡ other.turns
   same_turns book other a b =
@@ -53,25 +54,30 @@ module _ (run : Run) (table : Table) (report journal : List ℕ) (few : run.memb
         report = subst (λ n. IsReport table n (held_in n table second.rows) two) members second.report;
       })
 
-  passes_and_faulty : (book : BookState) (line : ℕ) (fault : Fault) → IsFoundOf run table report journal (Passes book) → IsFaultOf run table report journal line fault → ⊥
+  passes_and_faulty : (book : BookState) (line : ℕ) (fault : Fault) → IsFoundOf run table report journal (Passes book)
+      → IsFaultOf run table report journal line fault → ⊥
   passes_and_faulty book line (Journal why) a b = not_both run.members table run.commands journal a.0.rows b.number why a.0.journal b.at_fault
   passes_and_faulty book line Report a b =
       let same = same_report book b.book a.1.expected b.expected a.0 b.of_run a.1.of_book b.of_book in
       no_difference (lines_of report) (lines_of b.expected) line (a.1.same ∙ ap lines_of same) b.first
 
-  journal_and_report : (line other : ℕ) (why : Why) → HasFaultyJournal run table report journal line why → HasOtherReport run table report journal other → ⊥
+  journal_and_report : (line other : ℕ) (why : Why) → HasFaultyJournal run table report journal line why
+      → HasOtherReport run table report journal other → ⊥
   journal_and_report line other why a b = not_both run.members table run.commands journal b.of_run.rows a.number why b.of_run.journal a.at_fault
 
-  same_fault : (line other : ℕ) (fault another : Fault) → IsFaultOf run table report journal line fault → IsFaultOf run table report journal other another
+  same_fault : (line other : ℕ) (fault another : Fault) → IsFaultOf run table report journal line fault
+      → IsFaultOf run table report journal other another
       → (line ≡ other) × (fault ≡ another)
   same_fault line other (Journal why) (Journal whether) a b =
       let number = one_line run.members table run.commands journal a.number b.number why whether a.at_fault b.at_fault in
-      (omega (arith, number, a.line_is, b.line_is), ap Journal (one_reason run.members table run.commands few limits journal a.number b.number why whether short a.at_fault b.at_fault))
+      let reason = one_reason run.members table run.commands few limits journal a.number b.number why whether short a.at_fault b.at_fault in
+      (omega (arith, number, a.line_is, b.line_is), ap Journal reason)
   same_fault line other (Journal why) Report a b = absurd (journal_and_report line other why a b)
   same_fault line other Report (Journal why) a b = absurd (journal_and_report other line why b a)
   same_fault line other Report Report a b =
       let same = same_report a.book b.book a.expected b.expected a.of_run b.of_run a.of_book b.of_book in
-      (one_difference (lines_of report) (lines_of b.expected) line other (subst (λ (l : List ℕ). IsFirstDifference (lines_of report) (lines_of l) line) same a.first) b.first, refl)
+      let first = subst (λ (l : List ℕ). IsFirstDifference (lines_of report) (lines_of l) line) same a.first in
+      (one_difference (lines_of report) (lines_of b.expected) line other first b.first, refl)
 
   one_found : (a b : Finding) → IsFoundOf run table report journal a → IsFoundOf run table report journal b → AreAlike a b
   one_found (Passes book) (Passes other) x y = same_turns book other x.0 y.0
@@ -85,9 +91,12 @@ module _ (run : Run) (table : Table) (report journal : List ℕ) (few : run.memb
 pub one_finding : (input : List ℕ) (a b : Finding) → length input ≤ 67_108_864 → IsFindingOf input a → IsFindingOf input b → AreAlike a b
 one_finding input a b most x y =
     let parts = one_split input x.run_part x.report_part x.journal_part y.run_part y.report_part y.journal_part x.parts y.parts in
-    let taken = one_taken x.run_part x.run y.run x.table y.table x.taken (subst (λ (l : List ℕ). IsRunWithTable l y.run y.table) (sym parts.0) y.taken) in
-    let report : x.report ≡ y.report = one_text x.report_part x.report y.report x.report_read (subst (λ (l : List ℕ). IsReadText l y.report) (sym parts.1) y.report_read) in
-    let journal : x.journal ≡ y.journal = one_text x.journal_part x.journal y.journal x.journal_read (subst (λ (l : List ℕ). IsReadText l y.journal) (sym parts.2) y.journal_read) in
+    let taken = one_taken x.run_part x.run y.run x.table y.table x.taken
+    (subst (λ (l : List ℕ). IsRunWithTable l y.run y.table) (sym parts.0) y.taken) in
+    let report : x.report ≡ y.report =
+    one_text x.report_part x.report y.report x.report_read (subst (λ (l : List ℕ). IsReadText l y.report) (sym parts.1) y.report_read) in
+    let journal : x.journal ≡ y.journal =
+    one_text x.journal_part x.journal y.journal x.journal_read (subst (λ (l : List ℕ). IsReadText l y.journal) (sym parts.2) y.journal_read) in
     let sound = sound_run x.run_part x.run x.taken.says in
     let limits : IsWithinLimits x.table.window = subst (λ (t : Table). IsWithinLimits t.window) (sym x.taken.table_is.is) sound.limits in
     let within = (parts_within input x.run_part x.report_part x.journal_part 67_108_864 x.parts most).1 in
@@ -101,10 +110,13 @@ one_finding input a b most x y =
 -- an input that is refused has no finding
 pub found_or_refused : (input : List ℕ) (finding : Finding) (refusal : Refusal) → IsFindingOf input finding → IsRefusedToAudit input refusal → ⊥
 found_or_refused input finding refusal found refused =
-    let parts = one_split input found.run_part found.report_part found.journal_part refused.run_part refused.report_part refused.journal_part found.parts refused.parts in
+    let parts = one_split input found.run_part found.report_part found.journal_part refused.run_part refused.report_part refused.journal_part
+    found.parts refused.parts in
     elim refused.why [
       | inl large ↦ (let short = found.taken.short in omega (arith, short, ap length parts.0, large.0))
-      | inr small ↦ taken_or_refused refused.run_part found.run found.table refusal (subst (λ (l : List ℕ). IsRunWithTable l found.run found.table) parts.0 found.taken) small.1
+      | inr small ↦
+          taken_or_refused refused.run_part found.run found.table refusal
+          (subst (λ (l : List ℕ). IsRunWithTable l found.run found.table) parts.0 found.taken) small.1
     ]
 
 one_refused_part : (bytes : List ℕ) (a b : Refusal) → IsRefusedPart bytes a → IsRefusedPart bytes b → a ≡ b
@@ -116,5 +128,6 @@ one_refused_part bytes a b (inr (short, why)) (inr (also, other)) = one_refused_
 -- an input is refused for one thing
 pub one_refusal : (input : List ℕ) (a b : Refusal) → IsRefusedToAudit input a → IsRefusedToAudit input b → a ≡ b
 one_refusal input a b first second =
-    let parts = one_split input first.run_part first.report_part first.journal_part second.run_part second.report_part second.journal_part first.parts second.parts in
+    let parts = one_split input first.run_part first.report_part first.journal_part second.run_part second.report_part second.journal_part
+    first.parts second.parts in
     one_refused_part first.run_part a b first.why (subst (λ (l : List ℕ). IsRefusedPart l b) (sym parts.0) second.why)

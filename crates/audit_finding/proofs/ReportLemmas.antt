@@ -17,7 +17,8 @@ use Rattle.audit_finding.specs.declared.finding.Finding.TheVariants.{Passes}
 use Rattle.audit_finding.proofs.CountLemmas.{few_lines}
 
 -- a journal has some bytes
-journal_some : (run : Run) (table : Table) (journal : List ℕ) (rows : List Row) → IsJournal run.members table run.commands journal rows → 0 < length journal
+journal_some : (run : Run) (table : Table) (journal : List ℕ) (rows : List Row) → IsJournal run.members table run.commands journal rows
+    → 0 < length journal
 journal_some run table journal rows is =
     let so_far = lines_so_far table (suc (length run.commands)) (turns_of rows) is.whole.starts in
     let count = ap length is.whole.are ∙ length-append so_far (codes "end" ∷ []) in
@@ -38,5 +39,6 @@ report_of_book input book found =
     let whole = report_is_whole input found.run_part found.report_part found.journal_part found.parts (omega (arith, some, short)) in
     let ended = read_whole found.report_part found.report found.report_read whole in
     let has : HasReportOf found.table book found.report = found.found.1 in
-    let same : found.report ≡ has.expected = one_of_lines found.report has.expected ended (report_whole found.table book has.expected has.of_book) has.same in
+    let same : found.report ≡ has.expected =
+    one_of_lines found.report has.expected ended (report_whole found.table book has.expected has.of_book) has.same in
     subst (IsBookReport found.table book) (sym same) has.of_book

@@ -87,7 +87,7 @@ report_is_whole input run report journal parts some =
     let second = length-append report journal in
     let last : missing_newline input ≡ missing_newline journal =
     ap missing_newline parts.bytes ∙ missing_after run (report ++ journal) (omega (arith, second, some)) ∙ missing_after report journal some in
-    let texts : text_of_lines (lines_of input) ≡ text_of_lines (lines_of run) ++ (text_of_lines (lines_of report) ++ text_of_lines (lines_of journal)) =
+    let texts =
     ap text_of_lines parts.lines ∙ text_of_lines-append (lines_of run) (lines_of report ++ lines_of journal)
     ∙ ap (λ l. text_of_lines (lines_of run) ++ l) (text_of_lines-append (lines_of report) (lines_of journal)) in
     let whole = ap length (lines_back input) ∙ length-append input (missing_newline input) in

@@ -51,7 +51,8 @@ module _ (members : ℕ) (table : Table) (script : List Command) (few : members 
         omega (arith, less, long, size)
   ]
 
-  short_rows : (lines : List (List ℕ)) (rows : List Row) (starts : List ℕ) → length lines < 2 ^ 32 → IsLegal members table rows → ObeysSoFar members table script rows starts
+  short_rows : (lines : List (List ℕ)) (rows : List Row) (starts : List ℕ) → length lines < 2 ^ 32 → IsLegal members table rows
+      → ObeysSoFar members table script rows starts
       → lines ≡ with rows starts → length rows < 2 ^ 32
   short_rows lines rows starts short legal obeys are =
       let more = more_lines (length rows + length starts + 1) rows starts (omega arith) legal obeys in
@@ -68,7 +69,8 @@ module _ (members : ℕ) (table : Table) (script : List Command) (few : members 
   told_legal lines rows (inr (inr whole)) = whole.legal
 
   -- lines tell one list of turns
-  one_told : (lines : List (List ℕ)) (rows others : List Row) → length lines < 2 ^ 32 → TellTurns members table script lines rows → TellTurns members table script lines others
+  one_told : (lines : List (List ℕ)) (rows others : List Row) → length lines < 2 ^ 32 → TellTurns members table script lines rows
+      → TellTurns members table script lines others
       → turns_of rows ≡ turns_of others
   one_told lines rows others short (inl a) (inl b) = ap turns_of (a.1 ∙ sym b.1)
   one_told lines rows others short (inl a) (inr (inl b)) = let same = sym a.0 ∙ b.are in absurd cc
@@ -80,10 +82,12 @@ module _ (members : ℕ) (table : Table) (script : List Command) (few : members 
       (lines_settle members table script few limits rows others a.starts b.starts a.legal b.legal a.obeys b.obeys low (sym a.are ∙ b.are)).turns
   one_told lines rows others short (inr (inl a)) (inr (inr b)) =
       let low = short_rows lines rows a.starts short a.legal a.obeys a.are in
-      absurd (not_ended members table script few limits rows a.starts a.legal a.obeys low others (subst (λ (l : List (List ℕ)). IsWholeJournal members table script l others) a.are b))
+      let whole = subst (λ (l : List (List ℕ)). IsWholeJournal members table script l others) a.are b in
+      absurd (not_ended members table script few limits rows a.starts a.legal a.obeys low others whole)
   one_told lines rows others short (inr (inr a)) (inr (inl b)) =
       let low = short_rows lines others b.starts short b.legal b.obeys b.are in
-      absurd (not_ended members table script few limits others b.starts b.legal b.obeys low rows (subst (λ (l : List (List ℕ)). IsWholeJournal members table script l rows) b.are a))
+      let whole = subst (λ (l : List (List ℕ)). IsWholeJournal members table script l rows) b.are a in
+      absurd (not_ended members table script few limits others b.starts b.legal b.obeys low rows whole)
   one_told lines rows others short (inr (inr a)) (inr (inr b)) =
       let obeys = begins_whole members table script rows a.starts a.begin in
       let obeying = begins_whole members table script others b.starts b.begin in
@@ -93,7 +97,8 @@ module _ (members : ℕ) (table : Table) (script : List Command) (few : members 
       (lines_settle members table script few limits rows others a.starts b.starts a.legal b.legal obeys obeying low front).turns
 
   -- **A text is the journal of one list of turns.**
-  pub one_list : (text : List ℕ) (rows others : List Row) → length text < 2 ^ 32 → IsJournal members table script text rows → IsJournal members table script text others
+  pub one_list : (text : List ℕ) (rows others : List Row) → length text < 2 ^ 32 → IsJournal members table script text rows
+      → IsJournal members table script text others
       → turns_of rows ≡ turns_of others
   one_list text rows others short a b =
       let cut = a.cut in
@@ -118,7 +123,8 @@ module _ (members : ℕ) (table : Table) (script : List Command) (few : members 
         is = ap (λ n. turn_line table (n, next.row.turn)) (as_long members table script few limits rows others turns) ∙ next.is;
       })
 
-  same_reason : (rows others : List Row) (line : List ℕ) (why whether : Why) → IsLegal members table rows → IsLegal members table others → turns_of rows ≡ turns_of others
+  same_reason : (rows others : List Row) (line : List ℕ) (why whether : Why) → IsLegal members table rows → IsLegal members table others
+      → turns_of rows ≡ turns_of others
       → IsReason members table rows line why → IsReason members table others line whether → why ≡ whether
   same_reason rows others line BadLine BadLine legal lawful turns a b = refl
   same_reason rows others line NotLegal NotLegal legal lawful turns a b = refl
@@ -134,7 +140,8 @@ module _ (members : ℕ) (table : Table) (script : List Command) (few : members 
   same_reason rows others line NotLegal Missing legal lawful turns a b = absurd b
   same_reason rows others line NotObeyed Missing legal lawful turns a b = absurd b
 
-  stops_alike : (before rest : List (List ℕ)) (behind : List ℕ) (why whether : Why) → length before < 2 ^ 32 → StopsAtNext members table script before rest behind why
+  stops_alike : (before rest : List (List ℕ)) (behind : List ℕ) (why whether : Why) → length before < 2 ^ 32
+      → StopsAtNext members table script before rest behind why
       → StopsAtNext members table script before rest behind whether → why ≡ whether
   stops_alike before [] [] why whether short a b = a.2 ∙ sym b.2
   stops_alike before [] (byte ∷ bytes) why whether short a b = a.1 ∙ sym b.1
@@ -148,8 +155,10 @@ module _ (members : ℕ) (table : Table) (script : List Command) (few : members 
   one_reason text number other why whether short a b =
       let cut = a.cut in
       let second = b.cut in
-      let lines = same_lines (a.before ++ a.rest) (b.before ++ b.rest) a.behind b.behind cut.each second.each cut.last second.last (sym cut.parts ∙ second.parts) in
-      let size : length a.before ≡ length b.before = omega (arith, one_line members table script text number other why whether a b, a.number_is, b.number_is) in
+      let lines = same_lines (a.before ++ a.rest) (b.before ++ b.rest) a.behind b.behind cut.each second.each cut.last second.last
+      (sym cut.parts ∙ second.parts) in
+      let same = one_line members table script text number other why whether a b in
+      let size : length a.before ≡ length b.before = omega (arith, same, a.number_is, b.number_is) in
       let parts = same_cut a.before a.rest b.before b.rest lines.lines_are size in
       let within = lines_within (a.before ++ a.rest) a.behind in
       let low : length a.before < 2 ^ 32 = omega (arith, short, within, ap length cut.parts, length-append a.before a.rest) in
