@@ -421,6 +421,64 @@ class Timeline(unittest.TestCase):
         self.assertEqual((status, output), (1, ""))
         self.assertIn("No such file or directory", notes)
 
+    def told(self, change=lambda lines: lines):
+        """The takeover with its report and its journal, whose lines are changed."""
+        world = world_of("takeover")
+        lines = change((report_of(world) + journal_of(world)).split("\n")[:-1])
+        with open(example("takeover"), encoding="utf-8") as file:
+            return self.write(file.read() + "".join(f"{line}\n" for line in lines), "told")
+
+    def audited(self, path, *words):
+        """The titles of the line at fault in a picture, what the picture has as its note, and how many turns it says."""
+        status, output, notes = self.ran("--audit", path, *(words or ["--alone"]))
+        picture = ElementTree.fromstring(output)
+        said = self.texts(picture, "note")
+        self.assertEqual((status, notes), (int(bool(said)), "".join(f"timeline: {note}\n" for note in said)))
+        return self.titles(picture, "path", "fault"), said, picture.find(SVG + "title").text.split(": ")[1]
+
+    def test_an_audit_of_a_good_journal(self):
+        self.assertEqual(self.audited(self.told())[:2], ([], []))
+        words = ["--text", "--alone"]
+        self.assertEqual(self.ran("--audit", self.told(), *words), self.ran(example("takeover"), *words))
+
+    def test_the_line_at_fault(self):
+        legal = "line 42 is a turn that nobody can take then: 26 1 answer"
+        drawn = "turns 0 to 25 of a run of 3 replicas"
+        changes = [
+            (lambda lines: [*lines[:41], "26 1 answer", *lines[42:]], legal, drawn),
+            (lambda lines: [*lines[:41], "x" * 70, *lines[42:]], f"line 42 has no form of a journal's line: {'x' * 60} ..", drawn),
+            (lambda lines: [*lines[:41], "26 2 campaign", *lines[42:]], "line 42 isn't what the script asks for then: 26 2 campaign", drawn),
+            (lambda lines: lines[:41], "line 42 is missing", drawn),
+            (lambda lines: lines[:9], "line 10 is missing", "no turn of a run of 3 replicas"),
+        ]
+        for change, said, turns in changes:
+            self.assertEqual(self.audited(self.told(change)), ([said], [said], turns))
+
+    def test_the_replica_at_fault(self):
+        path = self.told(lambda lines: [*lines[:41], "26 1 answer", *lines[42:]])
+        page = self.ran("--audit", path, "--alone", "--page")[1]
+        [fault] = [mark for mark in self.data(page)["marks"] if "line at fault" not in mark[6] and 'class="fault"' in mark[6]]
+        self.assertEqual(fault[2], 1 << 1)
+        self.assertEqual(self.audited(path)[0], self.audited(path, "--alone", "--from", "20")[0])
+        status, output, _ = self.ran("--audit", path, "--alone", "--until", "20")
+        self.assertEqual((status, 'class="fault"' in output), (1, False))
+
+    def test_a_report_at_fault(self):
+        path = self.told(lambda lines: [line.replace("launched 1", "launched 2") for line in lines])
+        marks, [said], turns = self.audited(path)
+        self.assertEqual((marks, turns), ([], "turns 0 to 112 of a run of 3 replicas"))
+        self.assertEqual(said, "line 5 of the report is another one: job alice:1 launched 2 void 0")
+
+    def test_a_program_that_audits(self):
+        path = self.told()
+        words = self.program(f'[ "$*" = --audit ] && cmp -s - {path} && echo "audit no 42 3" && exit 6')
+        self.assertEqual(self.audited(path, *words)[0], ["line 42 isn't what the script asks for then: 26 2 hear 11"])
+        words = self.program("echo 'cron_cluster: line 0: cause 33 at 0' >&2; exit 2")
+        note = "timeline: the program ends with status 2: cron_cluster: line 0: cause 33 at 0\n"
+        self.assertEqual(self.ran("--audit", path, *words), (1, "", note))
+        for others in ([example("takeover")], ["--make", "7"], ["--seed", "1"]):
+            self.assertEqual(self.ran("--audit", path, "--alone", *others)[0], 2)
+
 
 if __name__ == "__main__":
     unittest.main()

@@ -9,7 +9,7 @@ _hevtsora_options() {
     ran) echo --from --until --day --grace --late --year --json --root --zone --zoneinfo --user --system --anacron --cron --skip \
       --program --help --version ;;
     explain) echo --plain --help --version ;;
-    timeline) echo --make --program --alone --seed --from --until --jobs --launch --text --page --help --version ;;
+    timeline) echo --make --audit --program --alone --seed --from --until --jobs --launch --text --page --help --version ;;
   esac
 }
 

@@ -11,6 +11,7 @@ from small_world.replay import BadJournal, Recorded, followed, is_free, journal_
 from small_world.run_file import RunFile
 from small_world.texts import made_run
 
+from .audited import audited
 from .launches import Launches
 from .page import page_of
 from .picture import Picture
@@ -24,6 +25,7 @@ docs/FORMATS.md is the manual.
 
   tools/timeline examples/takeover > takeover.svg
   tools/timeline --make 7 --launch make:1@20240305T0138Z > launch.svg
+  tools/timeline --audit told > told.svg
 """
 # The status with which it refuses a run file.
 REFUSED = 2
@@ -40,6 +42,7 @@ def parser():
     journal = "its journal, in place of what the program writes; what stands before it, as a report, is passed over"
     made.add_argument("journal", metavar="JOURNAL", nargs="?", help=journal)
     made.add_argument("--make", type=int, metavar="SEED", help="in place of RUN: the run file that is made from this number")
+    made.add_argument("--audit", metavar="TEXT", help="in place of RUN: what --audit of the program reads; the line at fault is marked")
     made.add_argument("--program", metavar="PATH", default=PROGRAM, help="the program; the built one by default")
     made.add_argument("--alone", action="store_true", help="work the journal out, without the program")
     made.add_argument("--seed", type=int, default=0, metavar="N", help="the order of free turns that --alone draws; 0 by default")
@@ -55,6 +58,11 @@ def parser():
 
 def read(path):
     with open(path, encoding="utf-8") as file:
+        return file.read()
+
+
+def content_of(path):
+    with open(path, "rb") as file:
         return file.read()
 
 
@@ -103,8 +111,9 @@ def launch_of(options, launches):
     return launches.titles().index(options.launch)
 
 
-def turns_of(options, launches, launch):
-    """The turns that are drawn: from one on and before another. Of a launch they are its own and some around."""
+def turns_of(options, launches, launch, fault):
+    """The turns that are drawn: from one on and before another. Of a launch they are its own and some around. Where a line is at fault
+    there may be none before it."""
     count, first, until = len(launches.world.turns), options.first, options.until
     if launch is not None:
         own = [turn for turn, _ in launches.events[launch]]
@@ -113,7 +122,7 @@ def turns_of(options, launches, launch):
     first = first or 0
     most = count if options.text else first + MOST_DRAWN["page" if options.page else "picture"]
     until = min(most, count if until is None else until, count)
-    if not 0 <= first < until:
+    if not 0 <= first < until and not (fault and first == count):
         raise BadJournal(f"the journal has turns 0 to {count - 1}")
     return first, until
 
@@ -130,21 +139,35 @@ def ways(launches, launch, first, until, jobs):
 
 def name_of(options):
     """What the run is called."""
-    return f"the run of seed {options.make}" if options.run is None else options.run
+    return f"the run of seed {options.make}" if options.make is not None else options.audit or options.run
+
+
+def judged(options):
+    """The run of a text as far as an audit finds it good, what is wrong with it, and the line at fault."""
+    found = audited(None if options.alone else options.program, content_of(options.audit))
+    if found.fault:
+        note(found.fault.text)
+    return found.world, found.fault and found.fault.text, found.fault
+
+
+def shown(options):
+    """The run that is drawn, where its journal differs from what is worked out or can't be, and the line at fault of an audit."""
+    if options.audit:
+        return judged(options)
+    text = plain_run(read(options.run)) if options.make is None else made_run(options.make)
+    return *played(options, RunFile(text), text), None
 
 
 def drawn(options):
-    """The text that the words ask for, and where the journal differs from what is worked out."""
-    text = plain_run(read(options.run)) if options.make is None else made_run(options.make)
-    run = RunFile(text)
-    jobs = jobs_of(options, run)
-    world, difference = played(options, run, text)
+    """The text that the words ask for, and where the journal differs from what is worked out or can't be."""
+    world, difference, fault = shown(options)
+    jobs = jobs_of(options, world.run)
     launches = Launches(world)
     launch = launch_of(options, launches)
-    turns = turns_of(options, launches, launch)
+    turns = turns_of(options, launches, launch, fault)
     if options.text:
         return "".join(f"{line}\n" for line in ways(launches, launch, *turns, jobs)), difference
-    picture = Picture(launches, *turns, os.path.basename(name_of(options)))
+    picture = Picture(launches, *turns, os.path.basename(name_of(options)), fault)
     return page_of(picture, jobs, launch, difference) if options.page else picture.text(jobs, difference), difference
 
 
@@ -164,12 +187,14 @@ def write_out(text):
 def run(words):
     """Writes the picture, and gives the status: 1 where a word or a file is at fault, or a journal isn't what is worked out."""
     options = parser().parse_args(words)
-    if (options.run is None) == (options.make is None):
-        parser().error("either RUN or --make")
+    if [options.run, options.make, options.audit].count(None) != 2:
+        parser().error("either RUN or --make or --audit")
     if options.make is not None and not 0 <= options.make <= MOST_SEED:
         parser().error(f"--make takes a number from 0 to {MOST_SEED:,}")
     if options.alone and options.journal:
         parser().error("either a journal or --alone")
+    if options.audit and options.seed:
+        parser().error("either --audit or --seed")
     if options.page and options.text:
         parser().error("either --page or --text")
     try:

@@ -9,7 +9,7 @@ from .svg import LETTER, bent, box, cross, diamond, disc, group_of, line, shape,
 from .words import call_words, letter_words, stop_words, term_label, turn_words
 
 # Layers, from the one that lies behind the others.
-FRAME, BANDS, LETTERS, TRACKS, CALLS, TURNS = range(6)
+FRAME, BANDS, LETTERS, TRACKS, CALLS, TURNS, FAULT = range(7)
 # A letter that nobody hears ends after so many columns, between two marks, and so much of the way to the next track.
 LOST, LOST_DOWN, LOST_APART = 0.5, 0.27, 7
 HALF_BAND = 24

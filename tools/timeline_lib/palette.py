@@ -47,6 +47,7 @@ FORMS = """
 text{font:11px sans-serif}.name{font-weight:bold;font-size:12px}.label{stroke-width:3;paint-order:stroke;stroke-linejoin:round}
 .part{stroke-dasharray:2 2}.letter,.lost{fill:none}.lost{stroke-dasharray:3 2}
 path.lost,path.void{stroke-dasharray:none;stroke-width:2;fill:none}
+.fault{stroke-width:2;fill:none}line.fault{stroke-dasharray:6 3}
 .within{stroke-width:2}.call,.late{stroke-width:1.5}.late{stroke-dasharray:4 3}.base{stroke-width:2}
 .candidate{stroke-dasharray:5 3}.candidate,.leader,.stopped{stroke-width:1.5}
 .found,.waiting{stroke-width:2.5}.waiting{stroke-dasharray:3 2}
@@ -54,7 +55,7 @@ path.lost,path.void{stroke-dasharray:none;stroke-width:2;fill:none}
 COLOURS = """
 .paper,.base,.within,.found,.waiting{fill:PAPER}text{fill:INK}.small{fill:SMALL}.note{fill:NOTE}.label{stroke:PAPER}
 line,.track,.part{stroke:FRAME}.letter{stroke:LETTER}.arrow{fill:LETTER}.lost,.void{stroke:LOST}
-.call,.found{stroke:CALL}.launch,.answer{fill:CALL}.late,.waiting{stroke:LATE}.campaign{fill:LATE}
+.fault{stroke:NOTE}.call,.found{stroke:CALL}.launch,.answer{fill:CALL}.late,.waiting{stroke:LATE}.campaign{fill:LATE}
 .candidate{fill:CANDIDATE_FILL;stroke:LATE}.leader{fill:LEADER_FILL;stroke:LEADER}
 .stopped{fill:STOPPED_FILL;stroke:STOPPED}.free{fill:FREE_FILL;stroke:FRAME}
 .tick,.hear{fill:TICK}.stop{fill:STOP}.within{stroke:STOP}.restart,.learned{fill:LEARNED}.vote{fill:VOTE}.base{stroke:VOTE}

@@ -4,10 +4,10 @@ from xml.sax.saxutils import escape
 from small_world.instants import stamp_of
 
 from .layout import LEFT, ROW, Layout
-from .marks import FRAME, Mark, Marks, turn_sign
+from .marks import FAULT, FRAME, Mark, Marks, turn_sign
 from .palette import STYLE
 from .story import calls_of, told
-from .svg import LETTER, box, cross, diamond, disc, element, group, line, words
+from .svg import LETTER, box, cross, diamond, disc, element, group, group_of, line, words
 from .words import launch_label, words_of
 
 # Clocks are told at least that far apart.
@@ -42,13 +42,14 @@ SIGNS = [
     ("found", disc(8, 0, 6, "found"), "launch found"),
     ("void", cross(8, 0, 5, "void"), "void"),
     ("waiting", disc(8, 0, 6, "waiting"), "late call"),
+    ("fault", cross(8, 0, 5, "fault"), "line at fault"),
 ]
 
 
 class Picture:
-    """A picture of the turns of a run, which has a name, from one turn on and before another."""
+    """A picture of the turns of a run, which has a name, from one turn on and before another; and of the line at fault behind them."""
 
-    def __init__(self, launches, first, until, name):
+    def __init__(self, launches, first, until, name, fault=None):
         self.launches = launches
         self.world = world = launches.world
         self.run = world.run
@@ -57,7 +58,8 @@ class Picture:
         is_free = any(begin < until and end > first for begin, end in self.free_parts())
         self.layout = Layout(self.run.members, first, until, self.commands(first), labels, is_free)
         marks = Marks(world, launches, words_of(world.run), self.layout).all()
-        self.marks = sorted([*self.free(), *self.parts(), *self.axis(), *marks], key=lambda mark: mark.layer)
+        faults = [self.fault(fault)] if fault and not fault.is_of_report and until == len(world.turns) else []
+        self.marks = sorted([*self.free(), *self.parts(), *self.axis(), *faults, *marks], key=lambda mark: mark.layer)
 
     def text(self, jobs=None, note=None):
         """The whole picture, with what is about these jobs alone where there are some, and with a note where there is one."""
@@ -88,6 +90,8 @@ class Picture:
 
     def extent(self):
         """Which turns are drawn."""
+        if self.layout.first == self.layout.until:
+            return "no turn"
         first, last = self.layout.first, self.layout.until - 1
         return f"turns {first} to {last}" + (f" of {len(self.world.turns)}" if self.is_cut() else "")
 
@@ -114,6 +118,14 @@ class Picture:
         before = [turn for turn in told if turn < first]
         goes_on = [(first, f".. {told[before[-1]][-1]}")] if before and first not in told else []
         return goes_on + [(turn, "; ".join(names)) for turn, names in told.items()]
+
+    def fault(self, fault):
+        """The line at fault: behind the last turn, and on the track of the replica whose turn it tells, if it tells one."""
+        layout = self.layout
+        x = layout.x(layout.until)
+        y = layout.top if fault.who is None else layout.y(fault.who)
+        text = group_of(line(x, layout.top, x, layout.bottom, "fault") + cross(x, y, 6, "fault"), fault.text)
+        return Mark(FAULT, "fault", x - 6, x + 6, text, () if fault.who is None else (fault.who,))
 
     def free_parts(self):
         """The turns from which on and before which replicas run by themselves."""
