@@ -70,13 +70,14 @@ def runs():
     yield "one replica, a job of each minute", one, 80_001, 20_000
 
 
-def measured(words, source, sink, notes):
-    """The seconds of the processor of a run, and the most bytes that it was resident in. Linux tells these in units of 1,024."""
+def measured(words, source, sink, notes, status=0):
+    """The seconds of the processor of a run, which has to end with a status, and the most bytes that it was resident in. Linux tells
+    these in units of 1,024."""
     with open(source, "rb") as stdin, open(sink, "wb") as stdout, open(notes, "wb") as stderr:
         process = subprocess.Popen(words, stdin=stdin, stdout=stdout, stderr=stderr)
-        _, status, usage = os.wait4(process.pid, 0)
-    process.returncode = os.WEXITSTATUS(status) if os.WIFEXITED(status) else -os.WTERMSIG(status)
-    if process.returncode != 0:
+        _, ended, usage = os.wait4(process.pid, 0)
+    process.returncode = os.WEXITSTATUS(ended) if os.WIFEXITED(ended) else -os.WTERMSIG(ended)
+    if process.returncode != status:
         sys.exit(f"{' '.join(words)} ended with status {process.returncode}")
     return usage.ru_utime + usage.ru_stime, 1024 * usage.ru_maxrss
 
@@ -86,9 +87,9 @@ def text_of(path):
         return file.read()
 
 
-def tried(words, folder, source="run", sink="report"):
+def tried(words, folder, source="run", sink="report", status=0):
     """The least seconds of a command, and its most bytes."""
-    tries = [measured(words, *(os.path.join(folder, name) for name in (source, sink, "notes"))) for _ in range(TRIES)]
+    tries = [measured(words, *(os.path.join(folder, name) for name in (source, sink, "notes")), status) for _ in range(TRIES)]
     return min(tries)[0], max(size for _, size in tries)
 
 
