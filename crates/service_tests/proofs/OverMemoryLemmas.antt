@@ -10,7 +10,7 @@ use Rattle.world_law.specs.Book.{BookState}
 use Rattle.cron_serve.specs.Ends.{Ends}
 use Rattle.run_text.specs.Run.{Run}
 use Rattle.run_text.specs.declared.refusal.Refusal.{Refusal}
-use Rattle.cron_serve.specs.Input.{IsRunWithTable}
+use Rattle.run_input.specs.Input.{IsRunWithTable}
 use Rattle.service_tests.specs.OverMemory.{IsReportOfRun, FitsRoom, IsBeyondRoom}
 use Rattle.cron_serve.specs.Serve.{IsRefused, IsReportOf, IsTextOfInput}
 use Rattle.cron_serve.specs.declared.words.Output.TheVariants.{Report}

@@ -2,8 +2,9 @@
 ghost use Rattle.std.specs.Prelude.{◌≡◌, ◌⊎◌, IfOk, false};
 ghost use Rattle.due_set.specs.Table.{Table};
 ghost use Rattle.run_text.specs.Run.{Run};
+ghost use Rattle.run_input.specs.Input.{IsRunWithTable};
 ghost use Rattle.service_tests.specs.OverMemory.{FitsRoom, IsBeyondRoom};
-ghost use Rattle.cron_serve.specs.Input.{IsRunWithTable, Suits};
+ghost use Rattle.cron_serve.specs.Input.{Suits};
 ghost use Rattle.cron_serve.specs.declared.words.Output.{Output};
 
 use cron_io::{MemSink, MemSource, OutOfMemory};
