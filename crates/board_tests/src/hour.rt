@@ -1,6 +1,6 @@
 //! A table of an hour, with a job each third of it.
 ghost use Rattle.std.specs.Prelude.{◌≡◌, IfOk};
-ghost use Rattle.due_set.specs.Table.{IsAnacron};
+ghost use Rattle.due_set.specs.Table.{IsKindOfName};
 
 use cron_fields::{FieldKind, FieldSet, Fields, HashSeed, read_field};
 use cron_io::OutOfMemory;
@@ -49,7 +49,7 @@ fn each_third_of_an_hour() -> Option<Fields> {
 // The one job. Its fields can be read.
 fn job(alloc: Global) -> Result<JobSpec, OutOfMemory>
     ensures zone { IfOk result (λ job. job.zone ≡ 0) }
-    ensures plain { IfOk result (λ job. IsAnacron job.kind → ⊥) }
+    ensures kind { IfOk result (λ job. IsKindOfName job.name job.kind) }
 {
     let kind = match each_third_of_an_hour() {
         Some(fields) => JobKind::Crontab { fields },

@@ -1,6 +1,7 @@
 //! Windows, entries and tables of one job.
 ghost use Rattle.std.specs.Prelude.{◌≡◌, length, IfOk, IfSome};
 ghost use Rattle.zone_minutes.specs.Window.{IsInWindow, IsWithinLimits};
+ghost use Rattle.due_set.specs.Table.{IsKindOfName};
 
 use cron_fields::{FieldKind, FieldSet, Fields, HashSeed, read_field};
 use due_set::{JobKind, JobSpec, JobTable};
@@ -58,6 +59,16 @@ pub fn fields_of(entry: &str) -> Option<Fields> {
     })
 }
 
+// A name of a job that runs so.
+fn name_of(kind: JobKind) -> &'static str
+    ensures { IsKindOfName result.now kind }
+{
+    match kind {
+        JobKind::Anacron { .. } => "alice/backup",
+        JobKind::Crontab { .. } | JobKind::Never => "alice:1",
+    }
+}
+
 /// A table of one job, at a grace of five minutes, in a zone.
 pub fn table_in(
     alloc: Global,
@@ -74,7 +85,7 @@ pub fn table_in(
     let mut zones = Vec::new(alloc);
     zones.push(ZoneRuns::build(alloc, source, window)?)?;
     let mut jobs = Vec::new(alloc);
-    jobs.push(JobSpec::new(alloc, "alice:1", 0, kind)?)?;
+    jobs.push(JobSpec::new(alloc, name_of(kind), 0, kind)?)?;
     Ok(JobTable::assemble(window, 5, zones, jobs))
 }
 

@@ -226,13 +226,13 @@ fn is_due_after(table: &JobTable, minutes: &[u16]) -> bool
     let first = table.window().from.0;
     let mut last = None;
     for minute in minutes {
-        let next = table.next_due(0, last);
+        let next = table.next_due(0, 0, last);
         if next != Some(Minute(first + i64::from(*minute))) {
             return false;
         }
         last = next;
     }
-    table.next_due(0, last).is_none() && table.count_due(0) as usize == minutes.len()
+    table.next_due(0, 0, last).is_none() && table.count_due(0, 0) as usize == minutes.len()
 }
 
 // Whether an entry is due at these minutes of the change's window.

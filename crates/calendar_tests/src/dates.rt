@@ -211,9 +211,9 @@ fn kind_of_period(period: Period, hours: Hours) -> JobKind {
 fn next_opening(table: &JobTable, last: Option<i64>) -> Option<(Minute, Option<i64>)>
     requires { 0 < length table.now.jobs }
 {
-    let first = table.first_opening(0, last, last)?;
+    let first = table.first_opening(0, 0, last, last)?;
     if table.window().contains(first) {
-        Some((first, table.anacron_open(0, last, last, first)))
+        Some((first, table.anacron_open(0, 0, last, last, first)))
     } else {
         None
     }
@@ -401,7 +401,7 @@ fn open_at_noon(alloc: Global, row: &Dates) -> Result<Option<i64>, Fail> {
         return Err(Fail::from("no window"));
     }
     let table = table_in(alloc, window, &UTC, kind_of_period(row.period, ALL_DAY))?;
-    Ok(table.anacron_open(0, day_of_date(row.last), day_of_date(row.opened), noon))
+    Ok(table.anacron_open(0, 0, day_of_date(row.last), day_of_date(row.opened), noon))
 }
 
 #[test]
@@ -458,7 +458,10 @@ fn called(table: &JobTable, call: &Call) -> Option<(bool, Kind2)>
 {
     let date = read_date(call.date)?;
     let now = instant_in(table, call.now)?;
-    Some((table.may_call(0, date, now), table.call_kind(0, date, now)))
+    Some((
+        table.may_call(0, 0, date, now),
+        table.call_kind(0, 0, date, now),
+    ))
 }
 
 #[test]

@@ -200,13 +200,13 @@ fn is_due_in_turn(table: &JobTable, stamps: &[&str]) -> bool
 {
     let mut last = None;
     for stamp in stamps {
-        let next = table.next_due(0, last);
+        let next = table.next_due(0, 0, last);
         if next != read_stamp(stamp) {
             return false;
         }
         last = next;
     }
-    table.next_due(0, last).is_none()
+    table.next_due(0, 0, last).is_none()
 }
 
 #[test]
@@ -214,7 +214,7 @@ fn entries_are_due_in_turn(rt: HostRuntime) -> Result<(), Fail> {
     for row in DUE {
         let window = window_of(row.from, row.until)?;
         let table = table_of_entry(rt.alloc(), window, &row.zone, row.entry)?;
-        let counted = table.count_due(0) as usize == row.due.len();
+        let counted = table.count_due(0, 0) as usize == row.due.len();
         assert!(rt; counted && is_due_in_turn(&table, row.due), "{}", row.entry);
     }
     Ok(())
@@ -251,7 +251,7 @@ fn an_entry_is_due_at_an_instant_or_not(rt: HostRuntime) -> Result<(), Fail> {
     let table = table_of_entry(rt.alloc(), window, &UTC, "0 * 29 2 *")?;
     for row in ASKED {
         let at = instant_in(&table, row.at).ok_or("not in the window")?;
-        assert_eq!(rt; table.is_due(0, at), row.due, "{}", row.at);
+        assert_eq!(rt; table.is_due(0, 0, at), row.due, "{}", row.at);
     }
     Ok(())
 }
@@ -273,8 +273,8 @@ fn jobs_of_a_table_are_told_apart(rt: HostRuntime) -> Result<(), Fail> {
         return Err(Fail::from("not two jobs"));
     }
     assert_eq!(rt; (table.name(0), table.name(1)), ("alice:1", "bob:2"));
-    assert_eq!(rt; table.next_due(0, None), None);
-    assert_eq!(rt; table.next_due(1, None), read_stamp("2024-03-31T00:30Z"));
+    assert_eq!(rt; table.next_due(0, 0, None), None);
+    assert_eq!(rt; table.next_due(0, 1, None), read_stamp("2024-03-31T00:30Z"));
     Ok(())
 }
 
@@ -316,8 +316,8 @@ fn called(table: &JobTable, later: i64) -> Option<(bool, Kind2)>
     let now = Minute(later.checked_add(launch)?);
     if table.window().contains(now) {
         Some((
-            table.may_call(0, launch, now),
-            table.call_kind(0, launch, now),
+            table.may_call(0, 0, launch, now),
+            table.call_kind(0, 0, launch, now),
         ))
     } else {
         None

@@ -12,4 +12,6 @@ mod due;
 #[cfg(test)]
 mod stamps;
 #[cfg(test)]
+mod versions;
+#[cfg(test)]
 mod zones;

@@ -3,7 +3,7 @@ use Rattle.std.proofs.Common.{◌≡◌, ◌↔◌, Bool, true, false, true≢fa
 use Rattle.std.proofs.Math.Seq.{get_or-append_seam}
 use Rattle.std.proofs.lemmas.List.{get_or_default, take-append-drop}
 use Rattle.std.proofs.lemmas.Str.Pattern.{NoCharPasses-char, drop_at_char}
-use Rattle.std.specs.Prelude.{◌==◌, IfSome, IfNone, slice_get, IsSomeAnd, IsTrue}
+use Rattle.std.specs.Prelude.{◌==◌, IfSome, IfNone, slice_get, IsSomeAnd}
 use Rattle.std.specs.Str.{NoCharPasses}
 use Rattle.std.specs.Str.Pattern.{RFindsChar, SplitsAroundMatch}
 use Rattle.std.proofs.lemmas.Bool.{cases_lt}
@@ -14,12 +14,9 @@ use Rattle.zone_minutes.specs.Civil.{day_number, IsCalendarDay, IsCalendarMinute
 use Rattle.zone_minutes.specs.Stamp.{basic_stamp_text, date_text}
 use Rattle.zone_minutes.specs.Window.{IsWithinLimits}
 use Rattle.zone_minutes.specs.declared.minute.Window.{Window}
-use Rattle.due_set.specs.Table.{Job, Table, IsAnacron, IsRunByPeriod, IsSound, AreNamesDistinct}
-use Rattle.due_set.specs.declared.job.JobKind.{JobKind}
-use Rattle.due_set.specs.declared.job.JobKind.TheVariants.{Anacron, Crontab, Never}
-use Rattle.cluster_sched.specs.Names.{IsCalendarTime, IsDayNear, IsNameIn, IsTimeNear, LacksAt, job_kind, job_name, kind_of, name_of, name_text, time_text}
+use Rattle.due_set.specs.Table.{Job, Table, IsSound, AreNamesDistinct, is_by_period, job_name, name_of}
+use Rattle.cluster_sched.specs.Names.{IsCalendarTime, IsDayNear, IsNameIn, IsTimeNear, LacksAt, name_text, time_text}
 use Rattle.cluster_sched.specs.declared.row.Name.{Name}
-use Rattle.due_set.proofs.TableLemmas.{IsRunByPeriod-kind}
 use Rattle.cluster_sched.proofs.StampLemmas.{LacksAt-basic_stamp_text, LacksAt-date_text}
 use denote.Ref.{Bor}
 
@@ -69,7 +66,7 @@ pub cut_none : (text : List ℕ) (r : Option (Bor (List ℕ) × Bor (List ℕ)))
 cut_none text None h = LacksAt-from_search text h
 cut_none text (Some x) h = tt
 
--- ---- days and instants, by the kind of a job
+-- ---- days and instants, by the name of a job
 
 -- the days of instants up to the year 2200
 day_bounds : (minute : ℤ) → pos 0 ≤ℤ minute → minute <ℤ pos 120_968_640 → (pos 0 ≤ℤ day_number minute) × (day_number minute ≤ℤ pos 84_005)
@@ -77,61 +74,48 @@ day_bounds (pos n) since before = (omega (arith, ints), omega (arith, ints, befo
 day_bounds (negsuc n) since before = absurd (omega (arith, ints, since))
 
 -- a window's instants have stamps, and the days near it dates
-pub IsCalendarTime-near : (window : Window) (kind : JobKind) (at : ℤ) → IsWithinLimits window → IsTimeNear window kind at → IsCalendarTime kind at
-IsCalendarTime-near window (Anacron period first last) at limits near =
+pub IsCalendarTime-near : (window : Window) (by_period : Bool) (at : ℤ) → IsWithinLimits window → IsTimeNear window by_period at → IsCalendarTime by_period at
+IsCalendarTime-near window true at limits near =
     let first = day_bounds window.from.0 (omega (arith, ints)) (omega (arith, ints)) in
     let last = day_bounds (window.until.0 -ℤ pos 1) (omega (arith, ints)) (omega (arith, ints)) in
     (omega (arith, ints, first), omega (arith, ints, last))
-IsCalendarTime-near window (Crontab fields) at limits near = (omega (arith, ints), omega (arith, ints))
-IsCalendarTime-near window Never at limits near = (omega (arith, ints), omega (arith, ints))
+IsCalendarTime-near window false at limits near = (omega (arith, ints), omega (arith, ints))
 
 -- two of them have two texts
-pub time_text-injective : (kind : JobKind) (a b : ℤ) → IsCalendarTime kind a → IsCalendarTime kind b → time_text kind a ≡ time_text kind b → a ≡ b
-time_text-injective (Anacron period first last) a b in_a in_b e = date_text-injective a b in_a in_b e
-time_text-injective (Crontab fields) a b in_a in_b e = basic_stamp_text-injective a b in_a in_b e
-time_text-injective Never a b in_a in_b e = basic_stamp_text-injective a b in_a in_b e
+pub time_text-injective : (by_period : Bool) (a b : ℤ) → IsCalendarTime by_period a → IsCalendarTime by_period b → time_text by_period a ≡ time_text by_period b → a ≡ b
+time_text-injective true a b in_a in_b e = date_text-injective a b in_a in_b e
+time_text-injective false a b in_a in_b e = basic_stamp_text-injective a b in_a in_b e
 
 -- and no `@`
-pub LacksAt-time_text : (kind : JobKind) (at : ℤ) → IsCalendarTime kind at → LacksAt (time_text kind at)
-LacksAt-time_text (Anacron period first last) at calendar = LacksAt-date_text at calendar
-LacksAt-time_text (Crontab fields) at calendar = LacksAt-basic_stamp_text at calendar
-LacksAt-time_text Never at calendar = LacksAt-basic_stamp_text at calendar
+pub LacksAt-time_text : (by_period : Bool) (at : ℤ) → IsCalendarTime by_period at → LacksAt (time_text by_period at)
+LacksAt-time_text true at calendar = LacksAt-date_text at calendar
+LacksAt-time_text false at calendar = LacksAt-basic_stamp_text at calendar
 
--- the words for an anacron job
-pub record SaysDate (kind : JobKind) (at : ℤ) : Type 1 where
-  pub text : time_text kind at ≡ date_text at
-  pub calendar : IsCalendarTime kind at ≡ IsCalendarDay at
-  pub near : (window : Window) → IsTimeNear window kind at ≡ IsDayNear window at
+-- the words for a job that runs by its period
+pub record SaysDate (by_period : Bool) (at : ℤ) : Type 1 where
+  pub text : time_text by_period at ≡ date_text at
+  pub calendar : IsCalendarTime by_period at ≡ IsCalendarDay at
+  pub near : (window : Window) → IsTimeNear window by_period at ≡ IsDayNear window at
 
-says_date : (kind : JobKind) (at : ℤ) → IsAnacron kind → SaysDate kind at
-says_date (Anacron period first last) at is = record { text = refl; calendar = refl; near = λ window. refl }
-says_date (Crontab fields) at is = absurd is
-says_date Never at is = absurd is
+says_date : (by_period : Bool) (at : ℤ) → by_period ≡ true → SaysDate by_period at
+says_date true at is = record { text = refl; calendar = refl; near = λ window. refl }
+says_date false at is = absurd (true≢false (sym is))
 
 -- and those for any other
-pub record SaysStamp (kind : JobKind) (at : ℤ) : Type 1 where
-  pub text : time_text kind at ≡ basic_stamp_text at
-  pub calendar : IsCalendarTime kind at ≡ IsCalendarMinute at
+pub record SaysStamp (by_period : Bool) (at : ℤ) : Type 1 where
+  pub text : time_text by_period at ≡ basic_stamp_text at
+  pub calendar : IsCalendarTime by_period at ≡ IsCalendarMinute at
 
-says_stamp : (kind : JobKind) (at : ℤ) → ¬ (IsAnacron kind) → SaysStamp kind at
-says_stamp (Anacron period first last) at is = absurd (is tt)
-says_stamp (Crontab fields) at is = record { text = refl; calendar = refl }
-says_stamp Never at is = record { text = refl; calendar = refl }
+says_stamp : (by_period : Bool) (at : ℤ) → ¬ (by_period ≡ true) → SaysStamp by_period at
+says_stamp true at is = absurd (is refl)
+says_stamp false at is = record { text = refl; calendar = refl }
 
 -- which words are meant, by a table's answer to whether its job runs by its period
-pub told_date : (table : Table) (job : ℕ) (b : Bool) (at : ℤ) → (IsTrue b ↔ IsRunByPeriod table job) → b ≡ true → SaysDate (job_kind table job) at
-told_date table job b at told e = by (slice_get table.jobs job) refl
-  where
-    by : (o : Option Job) → slice_get table.jobs job ≡ o → SaysDate (kind_of o) at
-    by None none = let is = told.0 e in absurd (cc (none, is.1))
-    by (Some j) is_job = says_date j.kind at (IsRunByPeriod-kind table job j is_job (told.0 e))
+pub told_date : (table : Table) (job : ℕ) (b : Bool) (at : ℤ) → b ≡ is_by_period table job → b ≡ true → SaysDate (is_by_period table job) at
+told_date table job b at told e = says_date (is_by_period table job) at (sym told ∙ e)
 
-pub told_stamp : (table : Table) (job : ℕ) (b : Bool) (at : ℤ) → (IsTrue b ↔ IsRunByPeriod table job) → b ≡ false → SaysStamp (job_kind table job) at
-told_stamp table job b at told e = by (slice_get table.jobs job) refl
-  where
-    by : (o : Option Job) → slice_get table.jobs job ≡ o → SaysStamp (kind_of o) at
-    by None none = says_stamp Never at (λ is. is)
-    by (Some j) is_job = says_stamp j.kind at (λ is. true≢false (sym (told.1 (j, is_job, is)) ∙ e))
+pub told_stamp : (table : Table) (job : ℕ) (b : Bool) (at : ℤ) → b ≡ is_by_period table job → b ≡ false → SaysStamp (is_by_period table job) at
+told_stamp table job b at told e = says_stamp (is_by_period table job) at (λ by. true≢false (sym by ∙ sym told ∙ e))
 
 -- the window's first and last day, as they are computed
 pub record HasDays (window : Window) (first last : ℤ) : Type 0 where
@@ -156,16 +140,16 @@ HasDays-computed window first last limits computed_first computed_last =
     }
 
 -- a day is near the window where it is so close to these
-pub near_days : (window : Window) (kind : JobKind) (at first last : ℤ) → HasDays window first last → SaysDate kind at → (first -ℤ pos 2) ≤ℤ at
-    → (at ≤ℤ (last +ℤ pos 2)) ↔ IsTimeNear window kind at
-near_days window kind at first last days says since =
+pub near_days : (window : Window) (by_period : Bool) (at first last : ℤ) → HasDays window first last → SaysDate by_period at → (first -ℤ pos 2) ≤ℤ at
+    → (at ≤ℤ (last +ℤ pos 2)) ↔ IsTimeNear window by_period at
+near_days window by_period at first last days says since =
     rw (says.near window) (
       λ until. record { since = rw (← days.is_first) since; until = rw (← days.is_last) until },
       λ near. rw days.is_last near.until,
     )
 
-pub not_near_days : (window : Window) (kind : JobKind) (at first last : ℤ) → HasDays window first last → SaysDate kind at → at <ℤ (first -ℤ pos 2) → ¬ (IsTimeNear window kind at)
-not_near_days window kind at first last days says before near =
+pub not_near_days : (window : Window) (by_period : Bool) (at first last : ℤ) → HasDays window first last → SaysDate by_period at → at <ℤ (first -ℤ pos 2) → ¬ (IsTimeNear window by_period at)
+not_near_days window by_period at first last days says before near =
     let is : IsDayNear window at = rw (says.near window) at near in
     let since : (first -ℤ pos 2) ≤ℤ at = rw days.is_first is.since in
     absurd (omega (arith, ints))
@@ -190,23 +174,23 @@ job_name-injective jobs i j distinct lt_i lt_j e = elim ((slice_get_cases jobs i
     ]
 
 -- a name's day or instant is of the calendar
-pub IsCalendarTime-name : (table : Table) (name : Name) → IsWithinLimits table.window → IsNameIn table name → IsCalendarTime (job_kind table name.job) name.at
-IsCalendarTime-name table name limits is_in = IsCalendarTime-near table.window (job_kind table name.job) name.at limits is_in.inside
+pub IsCalendarTime-name : (table : Table) (name : Name) → IsWithinLimits table.window → IsNameIn table name → IsCalendarTime (is_by_period table name.job) name.at
+IsCalendarTime-name table name limits is_in = IsCalendarTime-near table.window (is_by_period table name.job) name.at limits is_in.inside
 
 -- a text that is cut at its last `@`, and is one of a name, is cut where the name is
 pub parts_of_name : (table : Table) (name : Name) (text job time : List ℕ) → IsWithinLimits table.window → IsNameIn table name → text ≡ job ++ 64 ∷ time → LacksAt time → text ≡ name_text table name
-    → (job ≡ job_name table name.job) × (time ≡ time_text (job_kind table name.job) name.at)
+    → (job ≡ job_name table name.job) × (time ≡ time_text (is_by_period table name.job) name.at)
 parts_of_name table name text job time limits is_in cut lacks e =
-    let kind = job_kind table name.job in
+    let by_period = is_by_period table name.job in
     let calendar = IsCalendarTime-name table name limits is_in in
-    same_name_parts job (job_name table name.job) time (time_text kind name.at) lacks (LacksAt-time_text kind name.at calendar) (sym cut ∙ e)
+    same_name_parts job (job_name table name.job) time (time_text by_period name.at) lacks (LacksAt-time_text by_period name.at calendar) (sym cut ∙ e)
 
 -- how long a name is
-pub length-name_text : (table : Table) (name : Name) (text : List ℕ) (long : ℕ) → IsSomeAnd (slice_get table.jobs name.job) (λ job. text ≡ job.name) → length (time_text (job_kind table name.job) name.at) ≡ long
+pub length-name_text : (table : Table) (name : Name) (text : List ℕ) (long : ℕ) → IsSomeAnd (slice_get table.jobs name.job) (λ job. text ≡ job.name) → length (time_text (is_by_period table name.job) name.at) ≡ long
     → length (name_text table name) ≡ length text + 1 + long
 length-name_text table name text long is time =
     let same = name_of-same (slice_get table.jobs name.job) text is in
-    rw same (omega (arith, length-append (job_name table name.job) (64 ∷ time_text (job_kind table name.job) name.at)))
+    rw same (omega (arith, length-append (job_name table name.job) (64 ∷ time_text (is_by_period table name.job) name.at)))
   where
     name_of-same : (o : Option Job) (text : List ℕ) → IsSomeAnd o (λ job. text ≡ job.name) → text ≡ name_of o
     name_of-same None text is = absurd is
@@ -215,14 +199,14 @@ length-name_text table name text long is time =
 -- two launches of a table have two texts
 pub name_text-injective : (table : Table) (a b : Name) → IsSound table → IsNameIn table a → IsNameIn table b → name_text table a ≡ name_text table b → a ≡ b
 name_text-injective table a b sound in_a in_b e =
-    let kind = job_kind table b.job in
+    let by_period = is_by_period table b.job in
     let in_calendar = IsCalendarTime-name table a sound.limits in_a in
-    let parts = parts_of_name table b (name_text table a) (job_name table a.job) (time_text (job_kind table a.job) a.at) sound.limits in_b refl (LacksAt-time_text (job_kind table a.job) a.at in_calendar) e in
+    let parts = parts_of_name table b (name_text table a) (job_name table a.job) (time_text (is_by_period table a.job) a.at) sound.limits in_b refl (LacksAt-time_text (is_by_period table a.job) a.at in_calendar) e in
     let job : a.job ≡ b.job = job_name-injective table.jobs a.job b.job sound.distinct in_a.job in_b.job parts.0 in
-    let calendar_a : IsCalendarTime kind a.at = rw job at in_calendar in
+    let calendar_a : IsCalendarTime by_period a.at = rw job at in_calendar in
     let calendar_b = IsCalendarTime-name table b sound.limits in_b in
-    let texts : time_text kind a.at ≡ time_text kind b.at = rw job at parts.1 in
-    let at : a.at ≡ b.at = time_text-injective kind a.at b.at calendar_a calendar_b texts in
+    let texts : time_text by_period a.at ≡ time_text by_period b.at = rw job at parts.1 in
+    let at : a.at ≡ b.at = time_text-injective by_period a.at b.at calendar_a calendar_b texts in
     let make : ℕ → ℤ → Name = λ j t. record { job = j; at = t } in
     let both : make a.job a.at ≡ make b.job b.at = rw (job, at) in
     both

@@ -1,6 +1,6 @@
 ghost use Rattle.std.specs.Prelude.{◌≡◌, ◌≢◌, ◌↔◌, ◌<◌, ◌≤◌, ◌+◌, ℕ, ℤ, ◌∷◌, ◌++◌, length, IsTrue, IfSome, IfNone, OnOk, OnErr, string_bytes, string_len, string_capacity};
-ghost use Rattle.due_set.specs.Table.{IsSound};
-ghost use Rattle.cluster_sched.specs.Names.{IsCalendarTime, IsNameIn, IsTimeNear, LacksAt, job_kind, job_name, name_text, time_text};
+ghost use Rattle.due_set.specs.Table.{IsSound, is_by_period, job_name};
+ghost use Rattle.cluster_sched.specs.Names.{IsCalendarTime, IsNameIn, IsTimeNear, LacksAt, name_text, time_text};
 ghost use Rattle.cluster_sched.specs.declared.row.Name.{Name};
 
 use crate::row::Name;
@@ -18,7 +18,7 @@ pub fn is_name_in(table: &JobTable, name: Name) -> bool
 // Whether the launch is on a day near the window, or at an instant of it.
 fn is_time_near(table: &JobTable, name: Name) -> bool
     requires { name.job < length table.now.jobs }
-    ensures { IsTrue result ↔ IsTimeNear table.now.window (job_kind table.now name.job) name.at }
+    ensures { IsTrue result ↔ IsTimeNear table.now.window (is_by_period table.now name.job) name.at }
 {
     let window = table.window();
     if table.is_anacron(name.job) {
@@ -30,8 +30,8 @@ fn is_time_near(table: &JobTable, name: Name) -> bool
     }
 }
 
-/// Appends a launch's name as a text: its job's name, `@`, and when it is, as alice:1@20240331T0100Z or, of an anacron
-/// job, backup@2024-03-31. `into` is unchanged without memory, which can be wanting only where it has no room.
+/// Appends a launch's name as a text: its job's name, `@`, and when it is, as alice:1@20240331T0100Z or, of a job that
+/// runs by its period, backup@2024-03-31. `into` is unchanged without memory, which can be wanting only where it has no room.
 pub fn write_name(table: &JobTable, name: Name, into: &mut String) -> Result<(), OutOfMemory>
     requires { IsNameIn table.now name }
     ensures ok { OnOk result (string_bytes into.new ≡ string_bytes into.old ++ name_text table.now name) }
@@ -49,7 +49,7 @@ pub fn write_name(table: &JobTable, name: Name, into: &mut String) -> Result<(),
 // How many bytes a name has after its `@`: those of a date or of a stamp.
 fn time_len(table: &JobTable, job: u32) -> usize
     requires { job < length table.now.jobs }
-    ensures len { (at : ℤ) → length (time_text (job_kind table.now job) at) ≡ result }
+    ensures len { (at : ℤ) → length (time_text (is_by_period table.now job) at) ≡ result }
     ensures bound { result ≤ 14 }
 {
     if table.is_anacron(job) { 10 } else { 14 }
@@ -58,10 +58,10 @@ fn time_len(table: &JobTable, job: u32) -> usize
 // Appends what a name has after its `@`.
 fn write_time(table: &JobTable, name: Name, into: &mut String) -> Result<(), OutOfMemory>
     requires job { name.job < length table.now.jobs }
-    requires calendar { IsCalendarTime (job_kind table.now name.job) name.at }
-    ensures ok { OnOk result (string_bytes into.new ≡ string_bytes into.old ++ time_text (job_kind table.now name.job) name.at) }
+    requires calendar { IsCalendarTime (is_by_period table.now name.job) name.at }
+    ensures ok { OnOk result (string_bytes into.new ≡ string_bytes into.old ++ time_text (is_by_period table.now name.job) name.at) }
     ensures err { OnErr result (string_bytes into.new ≡ string_bytes into.old) }
-    ensures full { OnErr result (string_capacity into.old < string_len into.old + length (time_text (job_kind table.now name.job) name.at)) }
+    ensures full { OnErr result (string_capacity into.old < string_len into.old + length (time_text (is_by_period table.now name.job) name.at)) }
 {
     if table.is_anacron(name.job) {
         write_date(name.at, into)
@@ -113,8 +113,8 @@ fn job_named(table: &JobTable, name: &str) -> Option<u32>
 // When a launch of the job is, by what its name has after the `@`.
 fn read_time(table: &JobTable, job: u32, time: &str) -> Option<i64>
     requires { job < length table.now.jobs }
-    ensures read { IfSome result (λ at. IsCalendarTime (job_kind table.now job) at × (time.now ≡ time_text (job_kind table.now job) at)) }
-    ensures none { IfNone result ((at : ℤ) → IsCalendarTime (job_kind table.now job) at → time.now ≢ time_text (job_kind table.now job) at) }
+    ensures read { IfSome result (λ at. IsCalendarTime (is_by_period table.now job) at × (time.now ≡ time_text (is_by_period table.now job) at)) }
+    ensures none { IfNone result ((at : ℤ) → IsCalendarTime (is_by_period table.now job) at → time.now ≢ time_text (is_by_period table.now job) at) }
 {
     if table.is_anacron(job) {
         read_date(time)

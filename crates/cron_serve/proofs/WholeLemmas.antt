@@ -58,16 +58,16 @@ module _ (bytes : List ℕ) (table : Table) (book : BookState) (nodes : List (No
       let (before, after, parts) = cut_at run.whole.log entry among in
       record { before = before; after = after; parts = parts; takes = run.whole.effective before after entry parts other }
 
-  pub each_ended : (job : ℕ) (at : ℤ) → IsJobDue table job at
+  pub each_ended : (job : ℕ) (at : ℤ) → IsJobDue table 0 job at
       → HasStart table run.whole.log job at × (kind : Kind) × HasEnd table run.whole.log job at kind × IsHeld book.ledger.held job at kind
   each_ended job at due =
       let (start, kind, ended) = run.whole.ended job at due in
       (start, kind, ended, end_held job at kind ended)
 
-  pub later : (job : ℕ) (at : ℤ) → IsJobDue table job at → AreTurnsBy at (script_turns run.whole.obeyed) → IsCalledAt book.ledger.held job at Launch at
+  pub later : (job : ℕ) (at : ℤ) → IsJobDue table 0 job at → AreTurnsBy at (script_turns run.whole.obeyed) → IsCalledAt book.ledger.held job at Launch at
   later job at due by = subst (λ (held : List SchedRow). IsCalledAt held job at Launch at) (sym same) (run.whole.later job at due by)
 
-  pub each_within_grace : (job : ℕ) (at : ℤ) → IsGraceLong table → IsJobDue table job at → IsHeld book.ledger.held job at Launch
+  pub each_within_grace : (job : ℕ) (at : ℤ) → IsGraceLong table → IsJobDue table 0 job at → IsHeld book.ledger.held job at Launch
   each_within_grace job at long due = subst (λ (held : List SchedRow). IsHeld held job at Launch) (sym same) (run.whole.all long job at due)
 
   pub dates_rise : (job : ℕ) → (dates : List ℤ) × StartsOf table run.whole.log job dates × IsRising dates
@@ -93,7 +93,7 @@ module _ (bytes : List ℕ) (table : Table) (book : BookState) (nodes : List (No
     walks : Obeys run.run.members table [] run.rows
     walks = subst (λ (script : List Command). Obeys run.run.members table script run.rows) none run.whole.obeyed
 
-    pub each_called : (job : ℕ) (at : ℤ) → IsJobDue table job at → IsCalledAt book.ledger.held job at Launch at
+    pub each_called : (job : ℕ) (at : ℤ) → IsJobDue table 0 job at → IsCalledAt book.ledger.held job at Launch at
     each_called job at due =
         subst (λ (held : List SchedRow). IsCalledAt held job at Launch at) (sym same) (due_unscripted run.run.members table run.rows job at few run.whole.legal walks due)
 

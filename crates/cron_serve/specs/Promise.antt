@@ -18,12 +18,12 @@ use Rattle.run_input.specs.Input.{IsRunWithTable}
 
 -- a row is held of each due instant of each crontab's job: it was launched, or given up
 abbrev pub HasEachDue : Table → List SchedRow → Type 0
-HasEachDue table rows = (job : ℕ) (at : ℤ) → IsJobDue table job at → (kind : Kind) × IsHeld rows job at kind
+HasEachDue table rows = (job : ℕ) (at : ℤ) → IsJobDue table 0 job at → (kind : Kind) × IsHeld rows job at kind
 
 -- each row that is held is of a due instant of its job, unless that runs by its period
 abbrev pub HasOnlyDue : Table → List SchedRow → Type 0
 HasOnlyDue table rows =
-    (row : SchedRow) → Contains rows row → IsJobDue table row.name.job row.name.at ⊎ IsRunByPeriod table row.name.job
+    (row : SchedRow) → Contains rows row → IsJobDue table 0 row.name.job row.name.at ⊎ IsRunByPeriod table row.name.job
 
 -- **The text is the report of these launches**: each stands there once, and each due instant has ended.
 pub record ReportsLaunches (table : Table) (members : ℕ) (script : List Command) (text : List ℕ) : Type 0 where

@@ -238,12 +238,12 @@ pub fn a_run_holds_each_launch_once()
 /// launched.
 pub fn a_run_ends_each_due_instant()
     ensures ended { (bytes : List ℕ) (table : Table) (book : BookState) (nodes : List (Node MemDisk)) (run : IsRunOf bytes table book nodes) (job : ℕ) (at : ℤ)
-        → IsJobDue table job at → HasStart table run.whole.log job at × (kind : Kind) × HasEnd table run.whole.log job at kind
+        → IsJobDue table 0 job at → HasStart table run.whole.log job at × (kind : Kind) × HasEnd table run.whole.log job at kind
         × IsHeld book.ledger.held job at kind }
     ensures later { (bytes : List ℕ) (table : Table) (book : BookState) (nodes : List (Node MemDisk)) (run : IsRunOf bytes table book nodes) (job : ℕ) (at : ℤ)
-        → IsJobDue table job at → AreTurnsBy at (script_turns run.whole.obeyed) → IsCalledAt book.ledger.held job at Launch at }
+        → IsJobDue table 0 job at → AreTurnsBy at (script_turns run.whole.obeyed) → IsCalledAt book.ledger.held job at Launch at }
     ensures all { (bytes : List ℕ) (table : Table) (book : BookState) (nodes : List (Node MemDisk)) (job : ℕ) (at : ℤ) → IsRunOf bytes table book nodes
-        → IsGraceLong table → IsJobDue table job at → IsHeld book.ledger.held job at Launch }
+        → IsGraceLong table → IsJobDue table 0 job at → IsHeld book.ledger.held job at Launch }
 {}
 
 /// Of a run whose script has no command each due instant of a crontab's job is held as launched, and was called at that very instant.
@@ -251,7 +251,7 @@ pub fn a_run_ends_each_due_instant()
 /// called at that instant. And nothing else is held.
 pub fn a_run_without_commands_launches_each_due_instant()
     ensures each { (bytes : List ℕ) (table : Table) (book : BookState) (nodes : List (Node MemDisk)) (run : IsRunOf bytes table book nodes) (job : ℕ) (at : ℤ)
-        → run.run.commands ≡ [] → IsJobDue table job at → IsCalledAt book.ledger.held job at Launch at }
+        → run.run.commands ≡ [] → IsJobDue table 0 job at → IsCalledAt book.ledger.held job at Launch at }
     ensures each_date { (bytes : List ℕ) (table : Table) (book : BookState) (nodes : List (Node MemDisk))
         (run : IsRunOf bytes table book nodes) (job : ℕ) (now date : ℤ)
         → run.run.commands ≡ [] → OpensBy table book.ledger.held job now date → IsCalledAt book.ledger.held job date Launch now }

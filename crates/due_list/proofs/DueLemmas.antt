@@ -24,9 +24,9 @@ IsInside window (Some instant) = IsInWindow window instant
 pub record DuesUpTo (table : Table) (number : ℕ) (instants : List ℤ) (last : Option ℤ) : Type 0 where
   pub inside : IsInside table.window last
   pub rising : IsRising instants
-  pub sound : (t : ℤ) → Contains instants t → IsJobDue table number t
+  pub sound : (t : ℤ) → Contains instants t → IsJobDue table 0 number t
   pub none_after : (t : ℤ) → Contains instants t → IsAfter last t → ⊥
-  pub complete : (t : ℤ) → IsJobDue table number t → (IsAfter last t → ⊥) → Contains instants t
+  pub complete : (t : ℤ) → IsJobDue table 0 number t → (IsAfter last t → ⊥) → Contains instants t
 
 pub dues_none : (table : Table) (number : ℕ) → DuesUpTo table number [] None
 dues_none table number = record {
@@ -52,14 +52,14 @@ earlier (Some b) x t before after = elim (cases_ltℤ b x) [ inl lt ↦ absurd (
     chain x b t le lt = omega (arith, ints)
 
 -- one due instant more
-pub dues_push : (table : Table) (number : ℕ) (instants : List ℤ) (last : Option ℤ) (t : ℤ) → DuesUpTo table number instants last → IsNextDue table number last t
+pub dues_push : (table : Table) (number : ℕ) (instants : List ℤ) (last : Option ℤ) (t : ℤ) → DuesUpTo table number instants last → IsNextDue table 0 number last t
     → DuesUpTo table number (instants ++ t ∷ []) (Some t)
 dues_push table number instants last t known next = record {
   inside = next.due.inside;
   rising = IsRising-push instants t known.rising before;
   sound = λ u h. elim (Contains-push_cases instants t u h) [
     | inl had ↦ known.sound u had
-    | inr e ↦ subst (IsJobDue table number) e next.due
+    | inr e ↦ subst (IsJobDue table 0 number) e next.due
   ];
   none_after = λ u h after. elim (Contains-push_cases instants t u h) [
     | inl had ↦ not_both u (before u had) after
@@ -88,7 +88,7 @@ dues_push table number instants last t known next = record {
 
 -- all of them
 pub dues_all : (table : Table) (number : ℕ) (instants : List ℤ) (last : Option ℤ) → DuesUpTo table number instants last
-    → ((t : ℤ) → IsJobDue table number t → IsAfter last t → ⊥) → IsJobDueList table number instants
+    → ((t : ℤ) → IsJobDue table 0 number t → IsAfter last t → ⊥) → IsJobDueList table 0 number instants
 dues_all table number instants last known none =
     record { rising = known.rising; sound = known.sound; complete = λ t due. known.complete t due (none t due) }
 
@@ -106,7 +106,7 @@ abs_le (pos m) (pos n) from le = omega (arith, ints)
 abs_le (pos m) (negsuc n) from le = absurd (omega (arith, ints))
 abs_le (negsuc m) y from le = absurd (omega (arith, ints))
 
-pub fewer_left : (table : Table) (number : ℕ) (last : Option ℤ) (t : ℤ) → IsNextDue table number last t → minutes_left table.window (Some t) < minutes_left table.window last
+pub fewer_left : (table : Table) (number : ℕ) (last : Option ℤ) (t : ℤ) → IsNextDue table 0 number last t → minutes_left table.window (Some t) < minutes_left table.window last
 fewer_left table number last t next = by_last last next.later
   where
     in_window : IsInWindow table.window t
@@ -125,7 +125,7 @@ fewer_left table number last t next = by_last last next.later
         abs_below (table.window.until.0 -ℤ t) (table.window.until.0 -ℤ b) (omega (arith, ints)) (omega (arith, ints))
 
 -- each of the minutes is a due instant
-pub each_due : (table : Table) (number : ℕ) (minutes : List Minute) → IsJobDueList table number (numbers_of_instants minutes) → All (λ minute. IsJobDue table number minute.0) minutes
+pub each_due : (table : Table) (number : ℕ) (minutes : List Minute) → IsJobDueList table 0 number (numbers_of_instants minutes) → All (λ minute. IsJobDue table 0 number minute.0) minutes
 each_due table number minutes list k d lt =
     let at_of : Minute → ℤ = λ minute. minute.0 in
     let size : length (numbers_of_instants minutes) ≡ length minutes = length-map minutes at_of in

@@ -33,9 +33,9 @@ use Rattle.due_list.specs.declared.fault.TableFault.{TableFault}
 use Rattle.due_list.proofs.ListLemmas.{Contains-parts, cut_at, same_zip, some_zip, zip_member}
 
 -- the zone of a job, as it is read, shows one local time
-same_local : (table : Table) (number : ℕ) (j k : Job) (z w : TimeZone) → IsJobIn table number j z → IsJobIn table number k w → (t : ℤ) → local_of z t ≡ local_of w t
+same_local : (table : Table) (number : ℕ) (j k : Job) (z w : TimeZone) → IsJobIn table 0 number j z → IsJobIn table 0 number k w → (t : ℤ) → local_of z t ≡ local_of w t
 same_local table number j k z w p q t =
-    let jobs : k ≡ j = same_job table number k j q.is_job p.is_job in
+    let jobs : k ≡ j = same_job table 0 number k j q.is_job p.is_job in
     let zones : slice_get table.zones k.zone ≡ slice_get table.zones j.zone = ap (λ (job : Job). slice_get table.zones job.zone) jobs in
     let sources : Some q.source ≡ Some p.source = sym q.is_zone ∙ zones ∙ p.is_zone in
     let source_is : q.source ≡ p.source = cc in
@@ -58,7 +58,7 @@ same_each table number z w same (t ∷ instants) =
 same_entry : (table : Table) (number : ℕ) (job : Job) (z w : TimeZone) (a b : List (List ℕ)) → ((t : ℤ) → local_of z t ≡ local_of w t)
     → AreEntryLines table number job z a → AreEntryLines table number job w b → a ≡ b
 same_entry table number job z w a b same p q =
-    let instants : p.instants ≡ q.instants = IsJobDueList-same table number p.instants q.instants p.are_due q.are_due in
+    let instants : p.instants ≡ q.instants = IsJobDueList-same table 0 number p.instants q.instants p.are_due q.are_due in
     p.lines_are
     ∙ ap (λ (l : List ℤ). due_job_line job.name (length l) ∷ map (due_line table number z) l) instants
     ∙ ap (λ (l : List (List ℕ)). due_job_line job.name (length q.instants) ∷ l) (same_each table number z w same q.instants)
@@ -67,15 +67,15 @@ same_entry table number job z w a b same p q =
 some_of_kind : (table : Table) (number : ℕ) (job : Job) (zone : TimeZone) → IsSound table → (kind : JobKind) → (lines : List (List ℕ)) × AreLinesBy kind table number job zone lines
 some_of_kind table number job zone sound (Anacron period first last) = (anacron_line job.name ∷ [], refl)
 some_of_kind table number job zone sound (Crontab fields) =
-    let dues = due_list table sound number in
+    let dues = due_list table sound 0 number in
     (due_job_line job.name (length dues.0) ∷ map (due_line table number zone) dues.0, record { instants = dues.0; are_due = dues.1; lines_are = refl })
 some_of_kind table number job zone sound Never =
-    let dues = due_list table sound number in
+    let dues = due_list table sound 0 number in
     (due_job_line job.name (length dues.0) ∷ map (due_line table number zone) dues.0, record { instants = dues.0; are_due = dues.1; lines_are = refl })
 
 some_lines : (table : Table) (number : ℕ) → IsSound table → number < length table.jobs → (lines : List (List ℕ)) × AreLinesOfJob table number lines
 some_lines table number sound below =
-    let read : IsJobRead table number = zone_is_read table number sound below in
+    let read : IsJobRead table 0 number = zone_is_read table 0 number sound (omega arith) below in
     let lines = some_of_kind table number read.0 read.1 sound read.0.kind in
     (lines.0, record { job = read.0; zone = read.1; is_in = read.2; are = lines.1 })
 
@@ -100,7 +100,7 @@ same_of_kind table number job z w a b same Never p q = same_entry table number j
 
 same_lines : (table : Table) (number : ℕ) (a b : List (List ℕ)) → AreLinesOfJob table number a → AreLinesOfJob table number b → a ≡ b
 same_lines table number a b p q =
-    let jobs : q.job ≡ p.job = same_job table number q.job p.job q.is_in.is_job p.is_in.is_job in
+    let jobs : q.job ≡ p.job = same_job table 0 number q.job p.job q.is_in.is_job p.is_in.is_job in
     same_of_kind table number p.job p.zone q.zone a b (same_local table number p.job q.job p.zone q.zone p.is_in q.is_in) p.job.kind p.are
     (subst (λ (j : Job). AreLinesBy j.kind table number j q.zone b) jobs q.are)
 
@@ -110,7 +110,7 @@ same_due_text table a b p q =
     p.text_is ∙ ap (λ (l : List (List (List ℕ))). text_of_lines (due_lines l)) parts ∙ sym q.text_is
 
 -- the line of a due instant stands among those of its job
-among_kind : (table : Table) (number : ℕ) (at : ℤ) (job : Job) (zone : TimeZone) (lines : List (List ℕ)) (due : IsJobDue table number at) (kind : JobKind) → kind ≡ Crontab due.fields
+among_kind : (table : Table) (number : ℕ) (at : ℤ) (job : Job) (zone : TimeZone) (lines : List (List ℕ)) (due : IsJobDue table 0 number at) (kind : JobKind) → kind ≡ Crontab due.fields
     → AreLinesBy kind table number job zone lines → Contains lines (due_line table number zone at)
 among_kind table number at job zone lines due (Crontab fields) is are =
     subst (λ l. Contains l (due_line table number zone at)) (sym are.lines_are)
@@ -119,15 +119,15 @@ among_kind table number at job zone lines due (Crontab fields) is are =
 among_kind table number at job zone lines due (Anacron period first last) is are = absurd (cc)
 among_kind table number at job zone lines due Never is are = absurd (cc)
 
-among_job : (table : Table) (number : ℕ) (at : ℤ) (lines : List (List ℕ)) (due : IsJobDue table number at) → AreLinesOfJob table number lines
+among_job : (table : Table) (number : ℕ) (at : ℤ) (lines : List (List ℕ)) (due : IsJobDue table 0 number at) → AreLinesOfJob table number lines
     → Contains lines (due_line table number due.zone at)
 among_job table number at lines due are =
-    let jobs : are.job ≡ due.job = same_job table number are.job due.job are.is_in.is_job due.is_in.is_job in
+    let jobs : are.job ≡ due.job = same_job table 0 number are.job due.job are.is_in.is_job due.is_in.is_job in
     let kind : are.job.kind ≡ Crontab due.fields = ap (λ (j : Job). j.kind) jobs ∙ due.kind in
     let local : local_of are.zone at ≡ local_of due.zone at = same_local table number are.job due.job are.zone due.zone are.is_in due.is_in at in
     subst (λ line. Contains lines line) (same_line table number are.zone due.zone at local) (among_kind table number at are.job are.zone lines due are.job.kind kind are.are)
 
-pub has_due_line : (table : Table) (text : List ℕ) (number : ℕ) (at : ℤ) → IsDueText table text → (due : IsJobDue table number at)
+pub has_due_line : (table : Table) (text : List ℕ) (number : ℕ) (at : ℤ) → IsDueText table text → (due : IsJobDue table 0 number at)
     → (front back : List (List ℕ)) × (text ≡ text_of_lines (front ++ due_line table number due.zone at ∷ back))
 has_due_line table text number at is due =
     let below : number < length table.jobs = slice_get_within table.jobs number due.job due.is_in.is_job in

@@ -1,5 +1,5 @@
 -- The lines of a due list and of a check, appended to a text.
-use Rattle.std.proofs.Common.{◌≡◌, ℕ, ◌+◌, ◌-◌, ◌<◌, List, [], ◌∷◌, ◌++◌, length, map, take, get_or, flat_map, codes, decimal, ℤ, refl, sym, ap, ◌∙◌, subst, arith, append_assoc, append-nil, length-append}
+use Rattle.std.proofs.Common.{◌≡◌, ℕ, ◌+◌, ◌-◌, ◌<◌, List, [], ◌∷◌, ◌++◌, length, map, take, get_or, flat_map, codes, decimal, ℤ, Option, Some, refl, sym, ap, ◌∙◌, subst, arith, append_assoc, append-nil, length-append}
 use Rattle.std.specs.Prelude.{IsSomeAnd, slice_get, slice_index}
 use Rattle.std.specs.List.{range_with_len}
 use Rattle.std.proofs.lemmas.List.{take_at, get_or_at, length-map}
@@ -7,12 +7,12 @@ use Rattle.std.proofs.lemmas.Option.{slice_get_within}
 use Rattle.jiff.specs.Types.{TimeZone}
 use Rattle.zone_minutes.specs.Stamp.{stamp_text}
 use Rattle.zone_minutes.specs.declared.minute.Minute.{Minute}
-use Rattle.due_set.specs.Table.{Job, Table, IsAnacron, IsJobDue, IsJobDueList, IsJobIn, IsJobRead, IsRunByPeriod, IsSound}
+use Rattle.due_set.specs.Table.{Job, Table, IsAnacron, IsJobDue, IsJobDueList, IsJobIn, IsJobRead, IsSound}
 use Rattle.due_set.specs.declared.job.JobKind.{JobKind}
 use Rattle.due_set.specs.declared.job.JobKind.TheVariants.{Crontab, Anacron, Never}
 use Rattle.due_set.proofs.SoundLemmas.{zone_is_read}
-use Rattle.due_set.proofs.TableLemmas.{IsRunByPeriod-kind}
-use Rattle.cluster_sched.specs.Names.{IsNameIn, IsTimeNear, job_kind, kind_of}
+use Rattle.cluster_sched.specs.Names.{IsNameIn, IsTimeNear}
+use Rattle.due_set.proofs.NamedLemmas.{due_says}
 use Rattle.cluster_sched.specs.declared.row.Name.{Name}
 use Rattle.cron_io.specs.Lines.{text_of_lines}
 use Rattle.due_list.specs.CheckText.{check_lines, fault_line}
@@ -56,13 +56,10 @@ local_is old stamped cut len minute stamped_is len_is cut_is = last_cut (old ++ 
     whole = stamped_is ∙ ap (λ (l : List ℕ). old ++ l) (stamp_is minute) ∙ sym (append_assoc old (local_text minute) (90 ∷ []))
 
 -- a due instant is one of a launch
-kind_near : (table : Table) (number : ℕ) (due_at : ℤ) (due : IsJobDue table number due_at) → job_kind table number ≡ Crontab due.fields
-kind_near table number at due = ap kind_of due.is_in.is_job ∙ due.kind
-
-pub name_in : (table : Table) (number : ℕ) (at : ℤ) → IsJobDue table number at → let name : Name = record { job = number; at = at } in IsNameIn table name
-name_in table number at due = record {
+pub name_in : (table : Table) (number : ℕ) (at : ℤ) → IsSound table → IsJobDue table 0 number at → let name : Name = record { job = number; at = at } in IsNameIn table name
+name_in table number at sound due = record {
   job = slice_get_within table.jobs number due.job due.is_in.is_job;
-  inside = subst (λ (k : JobKind). IsTimeNear table.window k at) (sym (kind_near table number at due)) due.inside;
+  inside = subst (λ by_period. IsTimeNear table.window by_period at) (sym (due_says table 0 number at sound due)) due.inside;
 }
 
 -- the five parts of a due line
@@ -76,7 +73,7 @@ due_parts old a b c d e name local p q r s t =
     joined = simp append_assoc
 
 -- the lines of an entry
-pub entry_lines : (table : Table) (number : ℕ) (job : Job) (zone : TimeZone) (dues : List Minute) (old mid new name : List ℕ) (count : ℕ) → IsJobDueList table number (numbers_of_instants dues)
+pub entry_lines : (table : Table) (number : ℕ) (job : Job) (zone : TimeZone) (dues : List Minute) (old mid new name : List ℕ) (count : ℕ) → IsJobDueList table 0 number (numbers_of_instants dues)
     → count ≡ length dues → name ≡ job.name → mid ≡ old ++ (due_job_line name count ++ 10 ∷ []) → new ≡ mid ++ text_of_lines (map (λ at. due_line table number zone at.0) dues)
     → AppendsLines old new (AreEntryLines table number job zone)
 entry_lines table number job zone dues old mid new name count list count_is name_is mid_is new_is =
@@ -111,38 +108,45 @@ by_instants (Anacron period first last) table number job zone lines plain are = 
 by_instants Never table number job zone lines plain are = are
 
 -- the name of a job of the table
-pub name_is : (table : Table) (number : ℕ) (job : Job) (zone : TimeZone) (name : List ℕ) → IsJobIn table number job zone → IsSomeAnd (slice_get table.jobs number) (λ j. name ≡ j.name)
+pub name_is : (table : Table) (number : ℕ) (job : Job) (zone : TimeZone) (name : List ℕ) → IsJobIn table 0 number job zone → IsSomeAnd (slice_get table.jobs number) (λ j. name ≡ j.name)
     → name ≡ job.name
 name_is table number job zone name is_in known = subst (λ o. IsSomeAnd o (λ (j : Job). name ≡ j.name)) is_in.is_job known
 
--- the line of a job that runs by its period
-pub period_lines : (table : Table) (number : ℕ) (old new name : List ℕ) → IsSound table → number < length table.jobs → IsRunByPeriod table number
+-- and when it runs
+kind_is : (table : Table) (number : ℕ) (kind : JobKind) (job : Job) → IsSomeAnd (slice_get table.jobs number) (λ j. kind ≡ j.kind) → slice_get table.jobs number ≡ Some job
+    → kind ≡ job.kind
+kind_is table number kind job known is_job = subst (λ o. IsSomeAnd o (λ (j : Job). kind ≡ j.kind)) is_job known
+
+-- the line of a job that runs once in a period
+pub period_lines : (table : Table) (number : ℕ) (kind : JobKind) (old new name : List ℕ) → IsSound table → number < length table.jobs
+    → IsSomeAnd (slice_get table.jobs number) (λ j. kind ≡ j.kind) → IsAnacron kind
     → IsSomeAnd (slice_get table.jobs number) (λ j. name ≡ j.name) → new ≡ old ++ (anacron_line name ++ 10 ∷ []) → AppendsLines old new (AreLinesOfJob table number)
-period_lines table number old new name sound below by known new_is =
-    let read : IsJobRead table number = zone_is_read table number sound below in
+period_lines table number kind old new name sound below of_kind by known new_is =
+    let read : IsJobRead table 0 number = zone_is_read table 0 number sound (omega arith) below in
     let job = read.0 in
     let zone = read.1 in
-    let is_in : IsJobIn table number job zone = read.2 in
+    let is_in : IsJobIn table 0 number job zone = read.2 in
     record {
       lines = anacron_line job.name ∷ [];
       are = record {
         job = job;
         zone = zone;
         is_in = is_in;
-        are = by_period job.kind table number job zone (IsRunByPeriod-kind table number job is_in.is_job by);
+        are = by_period job.kind table number job zone (subst IsAnacron (kind_is table number kind job of_kind is_in.is_job) by);
       };
       new_is = new_is ∙ ap (λ (n : List ℕ). old ++ (anacron_line n ++ 10 ∷ [])) (name_is table number job zone name is_in known)
           ∙ ap (λ (l : List ℕ). old ++ l) (sym (append-nil (anacron_line job.name ++ 10 ∷ [])));
     }
 
 -- the lines of any other job
-pub instant_lines : (table : Table) (number : ℕ) (old new : List ℕ) → IsSound table → number < length table.jobs → (IsRunByPeriod table number → ⊥)
-    → ((job : Job) (zone : TimeZone) → IsJobIn table number job zone → AppendsLines old new (AreEntryLines table number job zone)) → AppendsLines old new (AreLinesOfJob table number)
-instant_lines table number old new sound below plain known =
-    let read : IsJobRead table number = zone_is_read table number sound below in
+pub instant_lines : (table : Table) (number : ℕ) (kind : JobKind) (old new : List ℕ) → IsSound table → number < length table.jobs
+    → IsSomeAnd (slice_get table.jobs number) (λ j. kind ≡ j.kind) → (IsAnacron kind → ⊥)
+    → ((job : Job) (zone : TimeZone) → IsJobIn table 0 number job zone → AppendsLines old new (AreEntryLines table number job zone)) → AppendsLines old new (AreLinesOfJob table number)
+instant_lines table number kind old new sound below of_kind plain known =
+    let read : IsJobRead table 0 number = zone_is_read table 0 number sound (omega arith) below in
     let job = read.0 in
     let zone = read.1 in
-    let is_in : IsJobIn table number job zone = read.2 in
+    let is_in : IsJobIn table 0 number job zone = read.2 in
     let added : AppendsLines old new (AreEntryLines table number job zone) = known job zone is_in in
     record {
       lines = added.lines;
@@ -150,7 +154,7 @@ instant_lines table number old new sound below plain known =
         job = job;
         zone = zone;
         is_in = is_in;
-        are = by_instants job.kind table number job zone added.lines (λ is. plain (job, is_in.is_job, is)) added.are;
+        are = by_instants job.kind table number job zone added.lines (λ is. plain (subst IsAnacron (sym (kind_is table number kind job of_kind is_in.is_job)) is)) added.are;
       };
       new_is = added.new_is;
     }

@@ -30,7 +30,7 @@ due_line table number zone instant =
 -- the lines of a job that doesn't run by its period: how many due instants it has, and each of them in order
 pub record AreEntryLines (table : Table) (number : ℕ) (job : Job) (zone : TimeZone) (lines : List (List ℕ)) : Type 0 where
   pub instants : List ℤ
-  pub are_due : IsJobDueList table number instants
+  pub are_due : IsJobDueList table 0 number instants
   pub lines_are : lines ≡ due_job_line job.name (length instants) ∷ map (due_line table number zone) instants
 
 -- the lines of the job, of a job that runs so
@@ -42,7 +42,7 @@ AreLinesBy kind table number job zone lines = AreEntryLines table number job zon
 pub record AreLinesOfJob (table : Table) (number : ℕ) (lines : List (List ℕ)) : Type 0 where
   pub job : Job
   pub zone : TimeZone
-  pub is_in : IsJobIn table number job zone
+  pub is_in : IsJobIn table 0 number job zone
   pub are : AreLinesBy job.kind table number job zone lines
 
 -- the parts are the lines of the jobs of these numbers

@@ -14,7 +14,7 @@ use crate::fault::ListFault;
 use crate::write::write_text;
 use cluster_sched::{Name, write_name};
 use cron_io::{OutOfMemory, Sink};
-use due_set::JobTable;
+use due_set::{JobKind, JobTable};
 use std::alloc::Global;
 use std::fmt::Write;
 use zone_minutes::{Minute, write_stamp};
@@ -32,11 +32,11 @@ fn put_local(into: &mut String, minute: i64) -> Result<(), OutOfMemory>
 
 // Appends the line of a due instant.
 fn put_due(into: &mut String, table: &JobTable, job: u32, at: Minute) -> Result<(), OutOfMemory>
-    requires { IsJobDue table.now job at.0 }
-    ensures { OnOk result ((j : Job) (zone : TimeZone) → IsJobIn table.now job j zone
+    requires { IsJobDue table.now 0 job at.0 }
+    ensures { OnOk result ((j : Job) (zone : TimeZone) → IsJobIn table.now 0 job j zone
         → string_bytes into.new ≡ string_bytes into.old ++ (due_line table.now job zone at.0 ++ 10 ∷ [])) }
 {
-    let shown = table.local(job, at);
+    let shown = table.local_of(0, job, at);
     into.push_str("due ")?;
     write_name(table, Name { job, at: at.0 }, into)?;
     into.push(' ')?;
@@ -52,8 +52,8 @@ fn put_dues(
     job: u32,
     dues: &[Minute],
 ) -> Result<(), OutOfMemory>
-    requires { All (λ at. IsJobDue table.now job at.0) dues.now }
-    ensures { OnOk result ((j : Job) (zone : TimeZone) → IsJobIn table.now job j zone
+    requires { All (λ at. IsJobDue table.now 0 job at.0) dues.now }
+    ensures { OnOk result ((j : Job) (zone : TimeZone) → IsJobIn table.now 0 job j zone
         → string_bytes into.new ≡ string_bytes into.old ++ text_of_lines (map (λ at. due_line table.now job zone at.0) dues.now)) }
 {
     for at in dues {
@@ -86,7 +86,7 @@ fn put_entry(
     job: u32,
 ) -> Result<(), OutOfMemory>
     requires { job < length table.now.jobs }
-    ensures { OnOk result ((j : Job) (zone : TimeZone) → IsJobIn table.now job j zone
+    ensures { OnOk result ((j : Job) (zone : TimeZone) → IsJobIn table.now 0 job j zone
         → AppendsLines (string_bytes into.old) (string_bytes into.new) (AreEntryLines table.now job j zone)) }
 {
     let dues = dues_of(alloc, table, job)?;
@@ -100,10 +100,9 @@ fn put_job(alloc: Global, into: &mut String, table: &JobTable, job: u32) -> Resu
     ensures { OnOk result (AppendsLines (string_bytes into.old) (string_bytes into.new) (AreLinesOfJob table.now job)) }
 {
     let name = table.name(job);
-    if table.is_anacron(job) {
-        put_anacron(into, name)
-    } else {
-        put_entry(alloc, into, table, job)
+    match table.kind(0, job) {
+        JobKind::Anacron { .. } => put_anacron(into, name),
+        JobKind::Crontab { .. } | JobKind::Never => put_entry(alloc, into, table, job),
     }
 }
 

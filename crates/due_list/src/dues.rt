@@ -10,11 +10,11 @@ use zone_minutes::Minute;
 /// The job's due instants, in order.
 pub fn dues_of(alloc: Global, table: &JobTable, job: u32) -> Result<Vec<Minute>, OutOfMemory>
     requires { job < length table.now.jobs }
-    ensures { IfOk result (λ dues. IsJobDueList table.now job (numbers_of_instants dues.items)) }
+    ensures { IfOk result (λ dues. IsJobDueList table.now 0 job (numbers_of_instants dues.items)) }
 {
     let mut dues = Vec::new(alloc);
     let mut last = None;
-    'dues: while let Some(due) = table.next_due(job, last) {
+    'dues: while let Some(due) = table.next_due(0, job, last) {
         dues.push(due)?;
         last = Some(due);
     }

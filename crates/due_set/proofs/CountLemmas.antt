@@ -1,13 +1,13 @@
 -- An entry's due instants, counted from one to the next.
 use Rattle.std.proofs.Common.{◌≡◌, ℕ, ◌+◌, ◌<◌, List, [], ◌∷◌, ◌++◌, length, Option, Some, ℤ, pos, negsuc, ◌+ℤ◌, ◌-ℤ◌, ◌<ℤ◌, ◌≤ℤ◌, inl, inr, refl, sym, ap, ◌∙◌, subst, arith, length-append}
-use Rattle.std.specs.Prelude.{Contains, slice_get, unsigned_abs}
+use Rattle.std.specs.Prelude.{Contains, unsigned_abs}
 use Rattle.std.proofs.lemmas.Int.{ints, by_lt_z}
 use Rattle.std.proofs.lemmas.List.Elements.{Contains-append_left, Contains-push, Contains-push_cases}
 use Rattle.cron_fields.specs.declared.field.Fields.{Fields}
 use Rattle.zone_minutes.specs.Zone.{Source, Zone}
 use Rattle.zone_minutes.specs.declared.minute.Window.{Window}
 use Rattle.due_set.specs.Due.{IsDueIn, IsFirstDue, IsNotDueIn}
-use Rattle.due_set.specs.Table.{Job, Table, IsDueList, IsJobDueList, IsNextDue}
+use Rattle.due_set.specs.Table.{Job, Table, IsDueList, IsJobDueList, IsNextDue, job_of_version}
 use Rattle.due_set.specs.declared.job.JobKind.TheVariants.{Crontab}
 use Rattle.due_set.proofs.Rising.{Contains-none, IsRising-push}
 use Rattle.due_set.proofs.TableLemmas.{IsCrontabIn, IsJobDue-from, IsJobDue-in, same_job}
@@ -93,25 +93,25 @@ CountsTo-all fields source from until minute count known none =
     )
 
 -- the list of a crontab job's due instants is that of its entry in the window
-pub IsJobDueList-entry : (table : Table) (number : ℕ) (job : Job) (fields : Fields) (source : Zone) (window : Window) (instants : List ℤ) → IsCrontabIn table number job fields source
-    → window ≡ table.window → IsDueList fields source.source window.from.0 window.until.0 instants → IsJobDueList table number instants
-IsJobDueList-entry table number job fields source window instants known window_is list =
+pub IsJobDueList-entry : (table : Table) (version number : ℕ) (job : Job) (fields : Fields) (source : Zone) (window : Window) (instants : List ℤ) → IsCrontabIn table version number job fields source
+    → window ≡ table.window → IsDueList fields source.source window.from.0 window.until.0 instants → IsJobDueList table version number instants
+IsJobDueList-entry table version number job fields source window instants known window_is list =
     let all : IsDueList fields source.source table.window.from.0 table.window.until.0 instants =
     subst (λ (w : Window). IsDueList fields source.source w.from.0 w.until.0 instants) window_is list in
     record {
       rising = all.rising;
-      sound = λ t h. IsJobDue-from table number job fields source t known (record { since = all.since t h; before = all.before t h }) (all.sound t h);
-      complete = λ t due. all.complete t due.inside.since due.inside.before (IsJobDue-in table number job fields source t known due);
+      sound = λ t h. IsJobDue-from table version number job fields source t known (record { since = all.since t h; before = all.before t h }) (all.sound t h);
+      complete = λ t due. all.complete t due.inside.since due.inside.before (IsJobDue-in table version number job fields source t known due);
     }
 
 -- a job that is no crontab's entry has none
-pub IsJobDueList-none : (table : Table) (number : ℕ) (job : Job) → slice_get table.jobs number ≡ Some job → ((fields : Fields) → job.kind ≡ Crontab fields → ⊥)
-    → IsJobDueList table number []
-IsJobDueList-none table number job is_job other = record {
+pub IsJobDueList-none : (table : Table) (version number : ℕ) (job : Job) → job_of_version table version number ≡ Some job → ((fields : Fields) → job.kind ≡ Crontab fields → ⊥)
+    → IsJobDueList table version number []
+IsJobDueList-none table version number job is_job other = record {
   rising = tt;
   sound = λ t h. absurd (Contains-none t h);
   complete = λ t due.
-      let jobs : due.job ≡ job = same_job table number due.job job due.is_in.is_job is_job in
+      let jobs : due.job ≡ job = same_job table version number due.job job due.is_in.is_job is_job in
       absurd (other due.fields (ap (λ (j : Job). j.kind) (sym jobs) ∙ due.kind));
 }
 
@@ -129,5 +129,5 @@ pub left_falls : (until at : ℤ) (minute next : ℕ) → pos minute ≤ℤ at �
 left_falls until at minute next since lt next_is = abs_below (until -ℤ pos next) (until -ℤ pos minute) (omega (arith, ints)) (omega (arith, ints))
 
 -- after an instant a job has one next due instant
-pub IsNextDue-same : (table : Table) (number : ℕ) (before : Option ℤ) (a b : ℤ) → IsNextDue table number before a → IsNextDue table number before b → a ≡ b
-IsNextDue-same table number before a b p q = both_ways a b (p.least b q.due q.later) (q.least a p.due p.later)
+pub IsNextDue-same : (table : Table) (version number : ℕ) (before : Option ℤ) (a b : ℤ) → IsNextDue table version number before a → IsNextDue table version number before b → a ≡ b
+IsNextDue-same table version number before a b p q = both_ways a b (p.least b q.due q.later) (q.least a p.due p.later)

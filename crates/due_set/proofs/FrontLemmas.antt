@@ -33,8 +33,8 @@ rising_prefix (x ∷ xs) (y ∷ ys) a b within none_left =
     ]
 
 -- the first due instants are the beginning of the list of all
-pub front_prefix : (table : Table) (job : ℕ) (instants dues : List ℤ) → IsDueFront table job instants → IsJobDueList table job dues
+pub front_prefix : (table : Table) (version job : ℕ) (instants dues : List ℤ) → IsDueFront table version job instants → IsJobDueList table version job dues
     → (rest : List ℤ) × (dues ≡ instants ++ rest)
-front_prefix table job instants dues front list =
+front_prefix table version job instants dues front list =
     rising_prefix instants dues front.rising list.rising (λ t h. list.complete t (front.sound t h))
     (λ t last h in_dues le. front.complete t last h (list.sound t in_dues) le)

@@ -5,6 +5,7 @@ pub mod DueLemmas
 pub mod ExistLemmas
 pub mod FrontLemmas
 pub mod MatchingLemmas
+pub mod NamedLemmas
 pub mod OpenLemmas
 pub mod Rising
 pub mod SoundLemmas

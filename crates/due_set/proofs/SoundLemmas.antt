@@ -1,11 +1,12 @@
 -- What follows from what holds of each table.
-use Rattle.std.proofs.Common.{◌≡◌, ℕ, ◌<◌, length, List, Some, ℤ, pos, ◌+ℤ◌, ◌≤ℤ◌, inl, inr, ◌↔◌, get_or, sym, ap, ◌∙◌, arith}
+use Rattle.std.proofs.Common.{◌≡◌, ℕ, zero, suc, ◌<◌, length, map, List, [], Option, None, Some, ℤ, pos, ◌+ℤ◌, ◌≤ℤ◌, inl, inr, ◌↔◌, get_or, refl, sym, ap, ◌∙◌, subst, arith}
 use Rattle.std.specs.Prelude.{slice_get}
 use Rattle.std.proofs.lemmas.Bool.{cases_lt}
+use Rattle.std.proofs.lemmas.List.{length-map}
 use Rattle.std.proofs.lemmas.Option.{slice_get_cases, slice_get_within, get_or_from_slice_get}
 use Rattle.jiff.specs.Types.{TimeZone}
 use Rattle.due_set.specs.Calls.{HasCome, IsOnTime}
-use Rattle.due_set.specs.Table.{IsAnacron, IsBuiltFor, IsJobIn, IsJobRead, IsSound, Job, Table}
+use Rattle.due_set.specs.Table.{IsAnacron, IsBuiltFor, IsJobIn, IsJobRead, IsSound, IsVersionOf, AreKindsOfNames, AreVersionsOf, AreZonesBelow, Job, Table, Version, job_of_version, jobs_in, jobs_of_later, own_name, version_count}
 use Rattle.due_set.specs.declared.job.JobKind.{JobKind}
 use Rattle.due_set.specs.declared.job.JobKind.TheVariants.{Crontab, Anacron, Never}
 use Rattle.due_set.proofs.TableLemmas.{All-slice_get}
@@ -39,23 +40,76 @@ on_time_of_kind (Crontab fields) zone grace at now plain = (λ h. h, λ h. h)
 on_time_of_kind (Anacron period first last) zone grace at now plain = absurd (plain tt)
 on_time_of_kind Never zone grace at now plain = (λ h. h, λ h. h)
 
-pub comes_at_instant : (table : Table) (number : ℕ) (job : Job) (zone : TimeZone) (at now : ℤ) → IsJobIn table number job zone → (IsAnacron job.kind → ⊥)
+pub comes_at_instant : (table : Table) (version number : ℕ) (job : Job) (zone : TimeZone) (at now : ℤ) → IsJobIn table version number job zone → (IsAnacron job.kind → ⊥)
     → (HasCome job.kind zone at now ↔ (at ≤ℤ now))
-comes_at_instant table number job zone at now is_in plain = come_of_kind job.kind zone at now plain
+comes_at_instant table version number job zone at now is_in plain = come_of_kind job.kind zone at now plain
 
-pub on_time_in_grace : (table : Table) (number : ℕ) (job : Job) (zone : TimeZone) (at now : ℤ) → IsJobIn table number job zone → (IsAnacron job.kind → ⊥)
+pub on_time_in_grace : (table : Table) (version number : ℕ) (job : Job) (zone : TimeZone) (at now : ℤ) → IsJobIn table version number job zone → (IsAnacron job.kind → ⊥)
     → (IsOnTime job.kind zone table.grace at now ↔ (now ≤ℤ (at +ℤ pos table.grace)))
-on_time_in_grace table number job zone at now is_in plain = on_time_of_kind job.kind zone table.grace at now plain
+on_time_in_grace table version number job zone at now is_in plain = on_time_of_kind job.kind zone table.grace at now plain
 
 -- what stands at a place of a list
 pub at_place : {X : Type 0} (xs : List X) (i : ℕ) → i < length xs → (x : X) × (slice_get xs i ≡ Some x)
 at_place xs i lt = elim ((slice_get_cases xs i).1) [ inl is ↦ (is.0, is.2) | inr past ↦ absurd (omega (arith, past.0)) ]
 
-pub zone_is_read : (table : Table) (number : ℕ) → IsSound table → number < length table.jobs → IsJobRead table number
-zone_is_read table number sound lt =
-    let job = at_place table.jobs number lt in
+-- each version has the table's jobs, in their places and under their names, with zones of the table
+pub record HasJobsOf (table : Table) (jobs : List Job) : Type 0 where
+  pub names : map own_name jobs ≡ map own_name table.jobs
+  pub zone_numbers : AreZonesBelow (length table.zones) jobs
+  pub kinds : AreKindsOfNames jobs
+
+pub jobs_of_version : (table : Table) (version : ℕ) → IsSound table → version < version_count table → HasJobsOf table (jobs_in table version)
+jobs_of_version table zero sound lt = record { names = refl; zone_numbers = sound.zone_numbers; kinds = sound.kinds }
+jobs_of_version table (suc place) sound lt =
+    let found = at_place table.later place (omega arith) in
+    let is : IsVersionOf table found.0 = All-slice_get (IsVersionOf table) table.later place found.0 sound.versions.each found.1 in
+    rw found.1 (record { names = is.names; zone_numbers = is.zone_numbers; kinds = is.kinds })
+
+pub length_of_version : (table : Table) (version : ℕ) → IsSound table → version < version_count table → length (jobs_in table version) ≡ length table.jobs
+length_of_version table version sound lt =
+    let names = (jobs_of_version table version sound lt).names in
+    sym (length-map (jobs_in table version) own_name) ∙ ap length names ∙ length-map table.jobs own_name
+
+-- a table of one version
+pub no_later : (table : Table) → AreVersionsOf table []
+no_later table = record {
+  few = omega arith;
+  each = λ k d lt. absurd (omega (arith, lt));
+  in_order = λ i j d rises within. absurd (omega (arith, within));
+}
+
+-- what holds of a version after the first
+pub version_is : (table : Table) (place : ℕ) (version : Version) → IsSound table → slice_get table.later place ≡ Some version → IsVersionOf table version
+version_is table place version sound is = All-slice_get (IsVersionOf table) table.later place version sound.versions.each is
+
+pub count_of_later : (table : Table) (place : ℕ) (version : Version) → IsSound table → slice_get table.later place ≡ Some version
+    → length version.jobs ≡ length table.jobs
+count_of_later table place version sound is =
+    sym (length-map version.jobs own_name) ∙ ap length (version_is table place version sound is).names ∙ length-map table.jobs own_name
+
+pub zone_is_read : (table : Table) (version number : ℕ) → IsSound table → version < version_count table → number < length table.jobs → IsJobRead table version number
+zone_is_read table version number sound known lt =
+    let jobs = jobs_in table version in
+    let has = jobs_of_version table version sound known in
+    let count = length_of_version table version sound known in
+    let job = at_place jobs number (omega (arith, count)) in
     let below : job.0.zone < length table.zones =
-    All-slice_get (λ j. j.zone < length table.zones) table.jobs number job.0 sound.zone_numbers job.1 in
+    All-slice_get (λ j. j.zone < length table.zones) jobs number job.0 has.zone_numbers job.1 in
     let source = at_place table.zones job.0.zone below in
     let built : IsBuiltFor table.window source.0 = All-slice_get (IsBuiltFor table.window) table.zones job.0.zone source.0 sound.built source.1 in
     (job.0, built.read.0, record { is_job = job.1; source = source.0; is_zone = source.1; read = built.read.1 })
+
+-- a job that a version has is the table's by its name
+pub has_version : (table : Table) (version number : ℕ) (job : Job) → IsSound table → job_of_version table version number ≡ Some job → version < version_count table
+has_version table zero number job sound is_job = omega arith
+has_version table (suc place) number job sound is_job = by (slice_get table.later place) refl
+  where
+    by : (found : Option Version) → slice_get table.later place ≡ found → suc place < version_count table
+    by None none = absurd (no_job (subst (λ (v : Option Version). slice_get (jobs_of_later v) number ≡ Some job) none is_job))
+      where
+        nothing : List Job
+        nothing = []
+
+        no_job : slice_get nothing number ≡ Some job → ⊥
+        no_job e = let lt : number < length nothing = slice_get_within nothing number job e in omega (arith, lt)
+    by (Some version) is = let lt = slice_get_within table.later place version is in omega (arith, lt)

@@ -11,7 +11,7 @@ use Rattle.zone_minutes.specs.Zone.{Zone, Source, IsReadAs}
 use Rattle.zone_minutes.specs.declared.minute.Minute.{Minute}
 use Rattle.zone_minutes.specs.declared.minute.Window.{Window}
 use Rattle.due_set.specs.Due.{IsDue, IsDueIn, IsFirstDue, IsNotDueIn}
-use Rattle.due_set.specs.Table.{IsJobDueList, Job, Table, job_of, AreZonesBelow, IsAfter, IsAnacron, IsJobDue, IsNextDue, IsRunByPeriod}
+use Rattle.due_set.specs.Table.{IsJobDueList, Job, Table, job_of, AreZonesBelow, IsAfter, IsAnacron, IsJobDue, IsNextDue, IsRunByPeriod, job_of_version}
 use Rattle.due_set.specs.declared.job.JobKind.TheVariants.{Crontab}
 use Rattle.due_set.specs.declared.job.JobSpec.{JobSpec}
 use Rattle.due_set.proofs.Rising.{IsRising-same}
@@ -29,14 +29,14 @@ spec_zone_below count specs k spec lt is below =
     subst P same at
 
 -- a crontab job of the table, and the source of its zone
-pub record IsCrontabIn (table : Table) (number : ℕ) (job : Job) (fields : Fields) (source : Zone) : Type 0 where
-  pub is_job : slice_get table.jobs number ≡ Some job
+pub record IsCrontabIn (table : Table) (version number : ℕ) (job : Job) (fields : Fields) (source : Zone) : Type 0 where
+  pub is_job : job_of_version table version number ≡ Some job
   pub kind : job.kind ≡ Crontab fields
   pub is_zone : slice_get table.zones job.zone ≡ Some source
 
-pub IsJobDue-from : (table : Table) (number : ℕ) (job : Job) (fields : Fields) (source : Zone) (t : ℤ) → IsCrontabIn table number job fields source
-    → IsInWindow table.window t → IsDueIn fields source.source t → IsJobDue table number t
-IsJobDue-from table number job fields source t known inside (zone, read, due) = record {
+pub IsJobDue-from : (table : Table) (version number : ℕ) (job : Job) (fields : Fields) (source : Zone) (t : ℤ) → IsCrontabIn table version number job fields source
+    → IsInWindow table.window t → IsDueIn fields source.source t → IsJobDue table version number t
+IsJobDue-from table version number job fields source t known inside (zone, read, due) = record {
   job = job;
   zone = zone;
   is_in = record { is_job = known.is_job; source = source; is_zone = known.is_zone; read = read };
@@ -47,17 +47,17 @@ IsJobDue-from table number job fields source t known inside (zone, read, due) = 
 }
 
 -- a job's number says the job
-pub same_job : (table : Table) (number : ℕ) (a b : Job) → slice_get table.jobs number ≡ Some a → slice_get table.jobs number ≡ Some b → a ≡ b
-same_job table number a b p q = cc
+pub same_job : (table : Table) (version number : ℕ) (a b : Job) → job_of_version table version number ≡ Some a → job_of_version table version number ≡ Some b → a ≡ b
+same_job table version number a b p q = cc
 
 -- whether a job runs by its period is said by its kind
 pub IsRunByPeriod-kind : (table : Table) (number : ℕ) (job : Job) → slice_get table.jobs number ≡ Some job → IsRunByPeriod table number → IsAnacron job.kind
-IsRunByPeriod-kind table number job is_job (other, is_other, is) = subst (λ (j : Job). IsAnacron j.kind) (same_job table number other job is_other is_job) is
+IsRunByPeriod-kind table number job is_job (other, is_other, is) = subst (λ (j : Job). IsAnacron j.kind) (same_job table 0 number other job is_other is_job) is
 
-pub IsJobDue-in : (table : Table) (number : ℕ) (job : Job) (fields : Fields) (source : Zone) (t : ℤ) → IsCrontabIn table number job fields source
-    → IsJobDue table number t → IsDueIn fields source.source t
-IsJobDue-in table number job fields source t known due =
-    let jobs : due.job ≡ job = same_job table number due.job job due.is_in.is_job known.is_job in
+pub IsJobDue-in : (table : Table) (version number : ℕ) (job : Job) (fields : Fields) (source : Zone) (t : ℤ) → IsCrontabIn table version number job fields source
+    → IsJobDue table version number t → IsDueIn fields source.source t
+IsJobDue-in table version number job fields source t known due =
+    let jobs : due.job ≡ job = same_job table version number due.job job due.is_in.is_job known.is_job in
     let kinds : Crontab due.fields ≡ Crontab fields = sym due.kind ∙ ap (λ (j : Job). j.kind) jobs ∙ known.kind in
     let fields_are : due.fields ≡ fields = cc in
     let zones : slice_get table.zones due.job.zone ≡ slice_get table.zones job.zone = ap (λ (j : Job). slice_get table.zones j.zone) jobs in
@@ -66,11 +66,11 @@ IsJobDue-in table number job fields source t known due =
     let read : IsReadAs source.source due.zone = subst (λ (s : Zone). IsReadAs s.source due.zone) source_is due.is_in.read in
     (due.zone, read, subst (λ (f : Fields). IsDue f due.zone t) fields_are due.due)
 
-pub IsJobDue-iff : (table : Table) (number : ℕ) (job : Job) (fields : Fields) (source : Zone) (t : ℤ) (result : Bool) → IsCrontabIn table number job fields source
-    → IsInWindow table.window t → (IsTrue result ↔ IsDueIn fields source.source t) → (IsTrue result ↔ IsJobDue table number t)
-IsJobDue-iff table number job fields source t result known inside tells = (
-  λ e. IsJobDue-from table number job fields source t known inside (tells.0 e),
-  λ due. tells.1 (IsJobDue-in table number job fields source t known due),
+pub IsJobDue-iff : (table : Table) (version number : ℕ) (job : Job) (fields : Fields) (source : Zone) (t : ℤ) (result : Bool) → IsCrontabIn table version number job fields source
+    → IsInWindow table.window t → (IsTrue result ↔ IsDueIn fields source.source t) → (IsTrue result ↔ IsJobDue table version number t)
+IsJobDue-iff table version number job fields source t result known inside tells = (
+  λ e. IsJobDue-from table version number job fields source t known inside (tells.0 e),
+  λ due. tells.1 (IsJobDue-in table version number job fields source t known due),
 )
 
 pub cases_ltℤ : (a b : ℤ) → (a <ℤ b) ⊎ (b ≤ℤ a)
@@ -80,16 +80,16 @@ cases_ltℤ a b = by_gap (a -ℤ b) refl
     by_gap (pos k) e = inr (omega (arith, ints))
     by_gap (negsuc k) e = inl (omega (arith, ints))
 
-pub IsNextDue-from : (table : Table) (number : ℕ) (job : Job) (fields : Fields) (source : Zone) (before : Option ℤ) (first t : ℤ)
-    → IsCrontabIn table number job fields source → table.window.from.0 ≤ℤ first
+pub IsNextDue-from : (table : Table) (version number : ℕ) (job : Job) (fields : Fields) (source : Zone) (before : Option ℤ) (first t : ℤ)
+    → IsCrontabIn table version number job fields source → table.window.from.0 ≤ℤ first
     → ((u : ℤ) → IsInWindow table.window u → (IsAfter before u ↔ first ≤ℤ u))
-    → IsFirstDue fields source.source first t → t <ℤ table.window.until.0 → IsNextDue table number before t
-IsNextDue-from table number job fields source before first t known since tells found lt =
+    → IsFirstDue fields source.source first t → t <ℤ table.window.until.0 → IsNextDue table version number before t
+IsNextDue-from table version number job fields source before first t known since tells found lt =
     let inside : IsInWindow table.window t = record { since = ≤ℤ-trans' found.since; before = lt } in
     record {
-      due = IsJobDue-from table number job fields source t known inside found.due;
+      due = IsJobDue-from table version number job fields source t known inside found.due;
       later = (tells t inside).1 found.since;
-      least = λ u due after. from_not u (found.none_before u ((tells u due.inside).0 after)) (IsJobDue-in table number job fields source u known due);
+      least = λ u due after. from_not u (found.none_before u ((tells u due.inside).0 after)) (IsJobDue-in table version number job fields source u known due);
     }
   where
     ≤ℤ-trans' : first ≤ℤ t → table.window.from.0 ≤ℤ t
@@ -98,11 +98,11 @@ IsNextDue-from table number job fields source before first t known since tells f
     from_not : (u : ℤ) → (u <ℤ t → IsDueIn fields source.source u → ⊥) → IsDueIn fields source.source u → t ≤ℤ u
     from_not u none due = elim (cases_ltℤ u t) [ inl lt ↦ absurd (none lt due) | inr le ↦ le ]
 
-pub none_next : (table : Table) (number : ℕ) (job : Job) (fields : Fields) (source : Zone) (before : Option ℤ) (first t : ℤ)
-    → IsCrontabIn table number job fields source → ((u : ℤ) → IsInWindow table.window u → (IsAfter before u ↔ first ≤ℤ u))
-    → IsNotDueIn fields source.source first table.window.until.0 → IsJobDue table number t → IsAfter before t → ⊥
-none_next table number job fields source before first t known tells none due after =
-    none t ((tells t due.inside).0 after) due.inside.before (IsJobDue-in table number job fields source t known due)
+pub none_next : (table : Table) (version number : ℕ) (job : Job) (fields : Fields) (source : Zone) (before : Option ℤ) (first t : ℤ)
+    → IsCrontabIn table version number job fields source → ((u : ℤ) → IsInWindow table.window u → (IsAfter before u ↔ first ≤ℤ u))
+    → IsNotDueIn fields source.source first table.window.until.0 → IsJobDue table version number t → IsAfter before t → ⊥
+none_next table version number job fields source before first t known tells none due after =
+    none t ((tells t due.inside).0 after) due.inside.before (IsJobDue-in table version number job fields source t known due)
 
 -- below one more, or the last
 pub split_at : (t : ℤ) (n : ℕ) → t <ℤ pos (n + 1) → (t <ℤ pos n) ⊎ (t ≡ pos n)
@@ -132,31 +132,31 @@ IfNone-map P Q None p f = f p
 IfNone-map P Q (Some x) p f = tt
 
 -- what the search of the window found is the job's next due instant
-pub next_found : (table : Table) (number : ℕ) (job : Job) (fields : Fields) (source : Zone) (window : Window) (before : Option ℤ) (first : ℤ) (result : Option Minute)
-    → IsCrontabIn table number job fields source → window ≡ table.window → window.from.0 ≤ℤ first
+pub next_found : (table : Table) (version number : ℕ) (job : Job) (fields : Fields) (source : Zone) (window : Window) (before : Option ℤ) (first : ℤ) (result : Option Minute)
+    → IsCrontabIn table version number job fields source → window ≡ table.window → window.from.0 ≤ℤ first
     → ((u : ℤ) → IsInWindow window u → (IsAfter before u ↔ first ≤ℤ u))
     → IfSome result (λ t. IsFirstDue fields source.source first t.0) → IfSome result (λ t. t.0 <ℤ window.until.0)
-    → IfSome result (λ t. IsNextDue table number before t.0)
-next_found table number job fields source window before first result known window_is since tells found lt =
-    IfSome-both (λ t. IsFirstDue fields source.source first t.0) (λ t. t.0 <ℤ window.until.0) (λ t. IsNextDue table number before t.0) result found lt
-    (λ t found_at lt_at. IsNextDue-from table number job fields source before first t.0 known
+    → IfSome result (λ t. IsNextDue table version number before t.0)
+next_found table version number job fields source window before first result known window_is since tells found lt =
+    IfSome-both (λ t. IsFirstDue fields source.source first t.0) (λ t. t.0 <ℤ window.until.0) (λ t. IsNextDue table version number before t.0) result found lt
+    (λ t found_at lt_at. IsNextDue-from table version number job fields source before first t.0 known
     (subst (λ (w : Window). w.from.0 ≤ℤ first) window_is since)
     (subst (λ (w : Window). (u : ℤ) → IsInWindow w u → (IsAfter before u ↔ first ≤ℤ u)) window_is tells)
     found_at (subst (λ (w : Window). t.0 <ℤ w.until.0) window_is lt_at))
 
 -- where the search of the window found nothing, no later instant is due
-pub nothing_next : (table : Table) (number : ℕ) (job : Job) (fields : Fields) (source : Zone) (window : Window) (before : Option ℤ) (first : ℤ) (result : Option Minute)
-    → IsCrontabIn table number job fields source → window ≡ table.window
+pub nothing_next : (table : Table) (version number : ℕ) (job : Job) (fields : Fields) (source : Zone) (window : Window) (before : Option ℤ) (first : ℤ) (result : Option Minute)
+    → IsCrontabIn table version number job fields source → window ≡ table.window
     → ((u : ℤ) → IsInWindow window u → (IsAfter before u ↔ first ≤ℤ u))
     → IfNone result (IsNotDueIn fields source.source first window.until.0)
-    → IfNone result ((t : ℤ) → IsJobDue table number t → IsAfter before t → ⊥)
-nothing_next table number job fields source window before first result known window_is tells none =
-    IfNone-map (IsNotDueIn fields source.source first window.until.0) ((t : ℤ) → IsJobDue table number t → IsAfter before t → ⊥) result none
-    (λ not t. none_next table number job fields source before first t known
+    → IfNone result ((t : ℤ) → IsJobDue table version number t → IsAfter before t → ⊥)
+nothing_next table version number job fields source window before first result known window_is tells none =
+    IfNone-map (IsNotDueIn fields source.source first window.until.0) ((t : ℤ) → IsJobDue table version number t → IsAfter before t → ⊥) result none
+    (λ not t. none_next table version number job fields source before first t known
     (subst (λ (w : Window). (u : ℤ) → IsInWindow w u → (IsAfter before u ↔ first ≤ℤ u)) window_is tells)
     (subst (λ (w : Window). IsNotDueIn fields source.source first w.until.0) window_is not))
 
 -- a job has one list of due instants
-pub IsJobDueList-same : (table : Table) (number : ℕ) (a b : List ℤ) → IsJobDueList table number a → IsJobDueList table number b → a ≡ b
-IsJobDueList-same table number a b p q =
+pub IsJobDueList-same : (table : Table) (version number : ℕ) (a b : List ℤ) → IsJobDueList table version number a → IsJobDueList table version number b → a ≡ b
+IsJobDueList-same table version number a b p q =
     IsRising-same a b p.rising q.rising (λ t. (λ h. q.complete t (p.sound t h), λ h. p.complete t (q.sound t h)))

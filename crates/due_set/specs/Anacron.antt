@@ -33,10 +33,10 @@ pub record MayOpen (period : Period) (first_minute last_minute : ℕ) (last curs
   pub on : MayOpenOn period last cursor (day_number shown)
 
 -- the job runs by its period, and may open at the instant, which is in the window; the date is the one that its zone shows
-pub record IsJobOpen (table : Table) (number : ℕ) (last cursor : Option ℤ) (now date : ℤ) : Type 0 where
+pub record IsJobOpen (table : Table) (version number : ℕ) (last cursor : Option ℤ) (now date : ℤ) : Type 0 where
   pub job : Job
   pub zone : TimeZone
-  pub is_in : IsJobIn table number job zone
+  pub is_in : IsJobIn table version number job zone
   pub period : Period
   pub first_minute : ℕ
   pub last_minute : ℕ
@@ -46,7 +46,7 @@ pub record IsJobOpen (table : Table) (number : ℕ) (last cursor : Option ℤ) (
   pub is_date : date ≡ day_number (local_of zone now)
 
 -- the first instant at which the job may open
-pub record IsFirstOpening (table : Table) (number : ℕ) (last cursor : Option ℤ) (now : ℤ) : Type 0 where
+pub record IsFirstOpening (table : Table) (version number : ℕ) (last cursor : Option ℤ) (now : ℤ) : Type 0 where
   pub date : ℤ
-  pub opens : IsJobOpen table number last cursor now date
-  pub least : (other day : ℤ) → IsJobOpen table number last cursor other day → now ≤ℤ other
+  pub opens : IsJobOpen table version number last cursor now date
+  pub least : (other day : ℤ) → IsJobOpen table version number last cursor other day → now ≤ℤ other

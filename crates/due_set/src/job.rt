@@ -4,6 +4,7 @@ use cron_fields::Fields;
 use cron_io::OutOfMemory;
 use std::alloc::Global;
 use std::marker::Model;
+use zone_minutes::Minute;
 
 /// How often an anacron job runs (anacrontab(5)).
 #[derive(Clone, Copy, Debug, PartialEq, Eq)]
@@ -83,4 +84,13 @@ impl JobSpec {
         let name = JobName::new(alloc, name)?;
         Ok(JobSpec { name, zone, kind })
     }
+}
+
+/// A version of a table.
+#[derive(Debug, Drop)]
+pub struct VersionSpec {
+    /// From this instant on it may be in force.
+    pub from: Minute,
+    /// The jobs in order, each of the same name in each version.
+    pub jobs: Vec<JobSpec>,
 }

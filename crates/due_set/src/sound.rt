@@ -1,9 +1,9 @@
 //! What follows for each table from what holds of it.
-ghost use Rattle.std.specs.Prelude.{◌≡◌, ◌⊎◌, ◌<◌, ◌↔◌, ◌≤ℤ◌, ◌+ℤ◌, ℕ, ℤ, pos, length, slice_get, Option, Some};
+ghost use Rattle.std.specs.Prelude.{◌≡◌, ◌⊎◌, ◌<◌, ◌↔◌, ◌≤ℤ◌, ◌+ℤ◌, ℕ, ℤ, pos, length, slice_get, Option, Some, true, false};
 ghost use Rattle.jiff.specs.Types.{TimeZone};
 ghost use Rattle.due_set.specs.Calls.{HasCome, IsOnTime};
 ghost use Rattle.due_set.specs.Anacron.{IsJobOpen, IsPeriodOver};
-ghost use Rattle.due_set.specs.Table.{Job, Table, IsAnacron, IsJobIn, IsJobRead, IsSound};
+ghost use Rattle.due_set.specs.Table.{Job, Table, IsAnacron, IsJobDue, IsJobIn, IsJobRead, IsSound, is_by_period, version_count};
 ghost use Rattle.due_set.specs.declared.job.Period.{Period};
 
 /// A law: a name says one job of a table at most.
@@ -13,37 +13,46 @@ pub fn a_name_says_one_job()
         → first.name ≡ second.name → a ≡ b }
 {}
 
-/// A law: `jiff` reads the zone of each job of a table.
+/// A law: `jiff` reads the zone of each job of a table, in each version.
 pub fn each_job_has_a_zone()
-    ensures { (table : Table) (number : ℕ) → IsSound table → number < length table.jobs → IsJobRead table number }
+    ensures { (table : Table) (version number : ℕ) → IsSound table → version < version_count table → number < length table.jobs
+        → IsJobRead table version number }
+{}
+
+/// A law: in each version a job that may open runs by its period, and one that is due doesn't.
+pub fn a_name_says_how_a_job_runs()
+    ensures by_period { (table : Table) (version number : ℕ) (last cursor : Option ℤ) (now date : ℤ) → IsSound table
+        → IsJobOpen table version number last cursor now date → is_by_period table number ≡ true }
+    ensures by_instants { (table : Table) (version number : ℕ) (at : ℤ) → IsSound table
+        → IsJobDue table version number at → is_by_period table number ≡ false }
 {}
 
 /// A law: a launch of a job that doesn't run by its period comes at its instant, and is on time up to the minutes of grace
 /// after it.
 pub fn launches_come_at_their_instants()
-    ensures come { (table : Table) (number : ℕ) (job : Job) (zone : TimeZone) (at now : ℤ)
-        → IsJobIn table number job zone → (IsAnacron job.kind → ⊥) → (HasCome job.kind zone at now ↔ (at ≤ℤ now)) }
-    ensures on_time { (table : Table) (number : ℕ) (job : Job) (zone : TimeZone) (at now : ℤ)
-        → IsJobIn table number job zone → (IsAnacron job.kind → ⊥)
+    ensures come { (table : Table) (version number : ℕ) (job : Job) (zone : TimeZone) (at now : ℤ)
+        → IsJobIn table version number job zone → (IsAnacron job.kind → ⊥) → (HasCome job.kind zone at now ↔ (at ≤ℤ now)) }
+    ensures on_time { (table : Table) (version number : ℕ) (job : Job) (zone : TimeZone) (at now : ℤ)
+        → IsJobIn table version number job zone → (IsAnacron job.kind → ⊥)
         → (IsOnTime job.kind zone table.grace at now ↔ (now ≤ℤ (at +ℤ pos table.grace))) }
 {}
 
 /// A law: an instant at which a job may open is one of its date, and is on time.
 pub fn a_job_opens_on_its_date()
-    ensures come { (table : Table) (number : ℕ) (job : Job) (zone : TimeZone) (last cursor : Option ℤ) (now date : ℤ)
-        → IsJobIn table number job zone → IsJobOpen table number last cursor now date → HasCome job.kind zone date now }
-    ensures on_time { (table : Table) (number : ℕ) (job : Job) (zone : TimeZone) (last cursor : Option ℤ) (now date : ℤ)
-        → IsJobIn table number job zone → IsJobOpen table number last cursor now date
+    ensures come { (table : Table) (version number : ℕ) (job : Job) (zone : TimeZone) (last cursor : Option ℤ) (now date : ℤ)
+        → IsJobIn table version number job zone → IsJobOpen table version number last cursor now date → HasCome job.kind zone date now }
+    ensures on_time { (table : Table) (version number : ℕ) (job : Job) (zone : TimeZone) (last cursor : Option ℤ) (now date : ℤ)
+        → IsJobIn table version number job zone → IsJobOpen table version number last cursor now date
         → IsOnTime job.kind zone table.grace date now }
-    ensures one { (table : Table) (number : ℕ) (last cursor : Option ℤ) (now a b : ℤ)
-        → IsJobOpen table number last cursor now a → IsJobOpen table number last cursor now b → a ≡ b }
+    ensures one { (table : Table) (version number : ℕ) (last cursor : Option ℤ) (now a b : ℤ)
+        → IsJobOpen table version number last cursor now a → IsJobOpen table version number last cursor now b → a ≡ b }
 {}
 
 /// A law: at each instant a job may open on some date or on none.
 pub fn a_job_may_open_or_not()
-    ensures { (table : Table) (number : ℕ) (last cursor : Option ℤ) (now : ℤ) → IsSound table
-        → ((date : ℤ) × IsJobOpen table number last cursor now date)
-        ⊎ ((date : ℤ) → IsJobOpen table number last cursor now date → ⊥) }
+    ensures { (table : Table) (version number : ℕ) (last cursor : Option ℤ) (now : ℤ) → IsSound table
+        → ((date : ℤ) × IsJobOpen table version number last cursor now date)
+        ⊎ ((date : ℤ) → IsJobOpen table version number last cursor now date → ⊥) }
 {}
 
 /// A law: a job that was launched on a date opens later only once its period is over since each launch before.

@@ -22,7 +22,7 @@ abbrev pub first_of_three : Identity
 first_of_three = record { me = 0; members = 3 }
 
 abbrev pub no_jobs : Table
-no_jobs = record { window = record { from = record { 0 = pos 525_600 }; until = record { 0 = pos 525_601 } }; grace = 0; zones = []; jobs = [] }
+no_jobs = record { window = record { from = record { 0 = pos 525_600 }; until = record { 0 = pos 525_601 } }; grace = 0; zones = []; jobs = []; later = [] }
 
 -- a vote for a no-op at slot 0 in the second ballot of replica 0
 abbrev pub own_vote : Vote

@@ -98,7 +98,7 @@ most_due kind = 0
 
 -- a table of these jobs over the ten days
 abbrev pub table_with : List Job → Table
-table_with jobs = record { window = made_window; grace = 14_400; zones = utc_over made_window ∷ []; jobs = jobs }
+table_with jobs = record { window = made_window; grace = 14_400; zones = utc_over made_window ∷ []; jobs = jobs; later = [] }
 
 -- what is due of a job
 record IsDueBy (fields : Fields) (instant : ℤ) : Type 0 where
@@ -107,7 +107,7 @@ record IsDueBy (fields : Fields) (instant : ℤ) : Type 0 where
   due : IsDue fields zone instant
   inside : IsInWindow made_window instant
 
-due_by : (jobs : List Job) (number : ℕ) (job : Job) (fields : Fields) (instant : ℤ) → slice_get jobs number ≡ Some job → job.zone ≡ 0 → job.kind ≡ Crontab fields → IsJobDue (table_with jobs) number instant → IsDueBy fields instant
+due_by : (jobs : List Job) (number : ℕ) (job : Job) (fields : Fields) (instant : ℤ) → slice_get jobs number ≡ Some job → job.zone ≡ 0 → job.kind ≡ Crontab fields → IsJobDue (table_with jobs) 0 number instant → IsDueBy fields instant
 due_by jobs number job fields instant is zone_is kind_is due =
     let same : due.job ≡ job = some_same due.job job (sym due.is_in.is_job ∙ is) in
     let fields_same : due.fields ≡ fields = crontab_same due.fields fields (sym due.kind ∙ ap (λ (j : Job). j.kind) same ∙ kind_is) in
@@ -146,14 +146,14 @@ daily_step m h instant by =
     record { steps = n / 1440; is = is ∙ ap pos (let whole : n ≡ 1440 * (n / 1440) + (60 * h + m) = omega arith in whole); least = omega arith; less = omega arith }
 
 -- a job of a made run takes no more of the limit
-pub share_at_most : (jobs : List Job) (number share : ℕ) (job : Job) → slice_get jobs number ≡ Some job → IsMadeJob job → IsShare (table_with jobs) number job.kind share → share ≤ most_due job.kind
+pub share_at_most : (jobs : List Job) (number share : ℕ) (job : Job) → slice_get jobs number ≡ Some job → IsMadeJob job → IsShare (table_with jobs) 0 number job.kind share → share ≤ most_due job.kind
 share_at_most jobs number share job is (hourly m zone_is kind_is) taken =
-    let (instants, list, share_is) = subst (λ (k : JobKind). IsShare (table_with jobs) number k share) kind_is taken in
+    let (instants, list, share_is) = subst (λ (k : JobKind). IsShare (table_with jobs) 0 number k share) kind_is taken in
     let each = each_contained (IsStep 60 m 474_792 475_032) instants (λ instant has. hourly_step m instant (due_by jobs number job (hourly_fields m) instant is zone_is kind_is (list.sound instant has))) in
     let most : 474_792 + length instants ≤ 475_032 = steps_at_most 60 m 474_792 475_032 instants (λ a b less. omega arith) list.rising each (omega arith) in
     subst (λ (k : JobKind). share ≤ most_due k) (sym kind_is) (let few : share ≤ 240 = omega (arith, share_is) in few)
 share_at_most jobs number share job is (daily m h zone_is kind_is) taken =
-    let (instants, list, share_is) = subst (λ (k : JobKind). IsShare (table_with jobs) number k share) kind_is taken in
+    let (instants, list, share_is) = subst (λ (k : JobKind). IsShare (table_with jobs) 0 number k share) kind_is taken in
     let each = each_contained (IsStep 1440 (60 * h + m) 19_783 19_793) instants (λ instant has. daily_step m h instant (due_by jobs number job (daily_fields m h) instant is zone_is kind_is (list.sound instant has))) in
     let most : 19_783 + length instants ≤ 19_793 = steps_at_most 1440 (60 * h + m) 19_783 19_793 instants (λ a b less. omega arith) list.rising each (omega arith) in
     subst (λ (k : JobKind). share ≤ most_due k) (sym kind_is) (let few : share ≤ 10 = omega (arith, share_is) in few)
@@ -179,9 +179,9 @@ count_at_most jobs count made counted =
     made_at (other ∷ others) zero job all is = subst IsMadeJob (cc) all.0
     made_at (other ∷ others) (suc number) job all is = made_at others number job all.1 is
 
-    each : (number share : ℕ) → IsSomeAnd (slice_get jobs number) (λ job. IsShare (table_with jobs) number job.kind share) → IsSomeAnd (slice_get jobs number) (λ job. share ≤ most_due job.kind)
+    each : (number share : ℕ) → IsSomeAnd (slice_get jobs number) (λ job. IsShare (table_with jobs) 0 number job.kind share) → IsSomeAnd (slice_get jobs number) (λ job. share ≤ most_due job.kind)
     each number share here = by (slice_get jobs number) refl here
       where
-        by : (found : Option Job) → slice_get jobs number ≡ found → IsSomeAnd found (λ job. IsShare (table_with jobs) number job.kind share) → IsSomeAnd found (λ job. share ≤ most_due job.kind)
+        by : (found : Option Job) → slice_get jobs number ≡ found → IsSomeAnd found (λ job. IsShare (table_with jobs) 0 number job.kind share) → IsSomeAnd found (λ job. share ≤ most_due job.kind)
         by None is here = absurd here
         by (Some job) is here = share_at_most jobs number share job is (made_at jobs number job made is) here

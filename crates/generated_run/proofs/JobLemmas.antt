@@ -13,7 +13,9 @@ use Rattle.crontab_text.specs.Answers.{IsLineOf}
 use Rattle.crontab_text.specs.LineBody.{LineBody, EntryBody}
 use Rattle.crontab_text.specs.declared.answer.Style.TheVariants.{User as UserStyle}
 use Rattle.cron_fields.specs.declared.field.Fields.{Fields}
-use Rattle.due_set.specs.Table.{Job, Table, IsSound, IsBuiltFor, AreNamesDistinct, utc_over}
+use Rattle.due_set.specs.Table.{Job, Table, IsKindOfName, IsSound, IsBuiltFor, AreNamesDistinct, utc_over}
+use Rattle.due_set.proofs.SoundLemmas.{no_later}
+use Rattle.job_table.proofs.KindLemmas.{crontab_plain}
 use Rattle.due_set.specs.declared.job.JobKind.TheVariants.{Crontab}
 use Rattle.zone_minutes.proofs.ZoneLemmas.{IsReadable-fixed}
 use Rattle.job_table.specs.Collect.{Collected}
@@ -27,7 +29,7 @@ use Rattle.generated_run.specs.Draws.{draw}
 use Rattle.generated_run.specs.Made.{made_window, hourly_line, daily_line, hourly_lines, daily_lines, table_lines, made_run}
 use Rattle.generated_run.proofs.CountLemmas.{IsMadeJob, hourly, daily, most_due, table_with, count_at_most}
 use Rattle.generated_run.proofs.EntryLemmas.{hourly_fields, daily_fields}
-use Rattle.generated_run.proofs.TextLemmas.{all_values, all_both, hourly_line_says, daily_line_says, window_limits}
+use Rattle.generated_run.proofs.TextLemmas.{make_label, all_values, all_both, hourly_line_says, daily_line_says, window_limits}
 
 -- an entry: its fields, and its command
 abbrev Entry : Type 0
@@ -186,6 +188,8 @@ table_exists seed =
       zone_numbers = zones_zero 6 1 entries;
       few = omega (arith, many);
       distinct = subst AreNamesDistinct known.collected.are known.distinct;
+      kinds = kinds_made 6 1 entries;
+      versions = no_later (table_with jobs);
     } in
     let (count, counted) = due_count (table_with jobs) sound in
     let few = count_at_most jobs count (made_jobs 6 1 entries fields) counted in (
@@ -203,6 +207,11 @@ table_exists seed =
       },
     )
   where
+    kinds_made : (line number : ℕ) (others : List Entry) → All (λ (job : Job). IsKindOfName job.name job.kind) (jobs_of (marks_of line number others))
+    kinds_made line number [] = All-nil (λ (job : Job). IsKindOfName job.name job.kind)
+    kinds_made line number (entry ∷ others) =
+        All-cons (λ (job : Job). IsKindOfName job.name job.kind) _ _ (crontab_plain (codes "make") number make_label) (kinds_made (line + 1) (number + 1) others)
+
     zones_zero : (line number : ℕ) (others : List Entry) → All (λ (job : Job). job.zone < 1) (jobs_of (marks_of line number others))
     zones_zero line number [] = All-nil (λ (job : Job). job.zone < 1)
     zones_zero line number (entry ∷ others) = All-cons (λ (job : Job). job.zone < 1) _ _ (omega arith) (zones_zero (line + 1) (number + 1) others)

@@ -269,7 +269,7 @@ script_within seed =
 pub window_limits : IsWithinLimits made_window
 window_limits = record { since = omega (arith, ints); until = omega (arith, ints); ordered = omega (arith, ints); short = omega (arith, ints) }
 
-make_label : IsLabel (codes "make")
+pub make_label : IsLabel (codes "make")
 make_label = (inl (omega arith, omega arith), (inl (inl (omega arith, omega arith)), (inl (inl (omega arith, omega arith)), (inl (inl (omega arith, omega arith)), tt))), omega arith)
 
 utc_name : IsZoneName (codes "UTC")

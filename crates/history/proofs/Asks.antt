@@ -16,7 +16,8 @@ use Rattle.zone_minutes.proofs.CalendarLemmas.{IsWithinClock, IsWithinClock-at}
 use Rattle.zone_minutes.proofs.ZoneLemmas.{IsReadable-fixed, local_of-fixed}
 use Rattle.due_set.specs.Calls.{IsOnTime}
 use Rattle.due_set.specs.Due.{Matches}
-use Rattle.due_set.specs.Table.{IsBuiltFor, IsJobDue, IsJobIn, IsNextDue, IsSound, Job, Table, utc_over}
+use Rattle.due_set.proofs.SoundLemmas.{no_later}
+use Rattle.due_set.specs.Table.{IsKindOfName, IsBuiltFor, IsJobDue, IsJobIn, IsNextDue, IsSound, Job, Table, utc_over}
 use Rattle.due_set.specs.declared.job.JobKind.TheVariants.{Crontab}
 use Rattle.launch_machine.specs.Answers.{IsCallKind, IsIntent}
 use Rattle.launch_machine.specs.Clerk.{Applies, TakesStart}
@@ -48,7 +49,7 @@ abbrev only_zone : Zone
 only_zone = utc_over some_minutes
 
 abbrev pub busy : Table
-busy = record { window = some_minutes; grace = 0; zones = only_zone ∷ []; jobs = only_job ∷ [] }
+busy = record { window = some_minutes; grace = 0; zones = only_zone ∷ []; jobs = only_job ∷ []; later = [] }
 
 -- the minutes of the window, from 0 on
 abbrev pub minute : ℕ → ℤ
@@ -71,6 +72,8 @@ sound = record {
   zone_numbers = All-cons (λ job. job.zone < 1) only_job [] (lit< tt) (All-nil (λ job. job.zone < 1));
   few = omega arith;
   distinct = λ i j d before within. absurd (omega (arith, before, within));
+  kinds = All-cons (λ job. IsKindOfName job.name job.kind) only_job [] refl (All-nil (λ job. IsKindOfName job.name job.kind));
+  versions = no_later busy;
 }
 
 -- ---- when the job is due
@@ -93,10 +96,10 @@ matches_all local inside =
       time = record { hour_in = has_every (civil_at local).hour (omega (arith, clock.hour)); minute_in = has_every (civil_at local).minute (omega (arith, clock.minute)) };
     }
 
-job_in : IsJobIn busy 0 only_job utc.0
+job_in : IsJobIn busy 0 0 only_job utc.0
 job_in = record { is_job = refl; source = only_zone; is_zone = refl; read = utc.1 }
 
-due : (k : ℕ) → k < 33 → IsJobDue busy 0 (minute k)
+due : (k : ℕ) → k < 33 → IsJobDue busy 0 0 (minute k)
 due k within = record {
   job = only_job;
   zone = utc.0;
@@ -112,7 +115,7 @@ abbrev pub minute_before : ℕ → Option ℤ
 minute_before zero = None
 minute_before (suc k) = Some (minute k)
 
-next : (k : ℕ) → k < 33 → IsNextDue busy 0 (minute_before k) (minute k)
+next : (k : ℕ) → k < 33 → IsNextDue busy 0 0 (minute_before k) (minute k)
 next zero within = record { due = due zero within; later = tt; least = λ other is after. is.inside.since }
 next (suc k) within = record { due = due (suc k) within; later = omega (arith, ints); least = λ other is after. omega (arith, ints, after) }
 

@@ -1,5 +1,5 @@
 -- How often a job has been launched: at most once for each minute of the window, since its instants or dates rise.
-use Rattle.std.proofs.Common.{◌≡◌, ℕ, zero, suc, ◌+◌, ◌<◌, ◌^◌, inl, inr, Option, Some, None, List, [], ◌∷◌, map, get_or, slice_set, ℤ, pos, ◌+ℤ◌, ◌-ℤ◌, ◌<ℤ◌, ◌≤ℤ◌, refl, sym, ap, ◌∙◌, arith, subst}
+use Rattle.std.proofs.Common.{◌≡◌, ℕ, zero, suc, ◌+◌, ◌<◌, ◌^◌, inl, inr, Bool, true, false, Option, Some, None, List, [], ◌∷◌, map, get_or, slice_set, ℤ, pos, ◌+ℤ◌, ◌-ℤ◌, ◌<ℤ◌, ◌≤ℤ◌, refl, sym, ap, ◌∙◌, arith, subst}
 use Rattle.std.specs.List.{Contains, range_with_len, slice_get}
 use Rattle.std.specs.Int.{int_div_euclid}
 use Rattle.std.proofs.lemmas.Int.{ints}
@@ -20,10 +20,9 @@ use Rattle.paxos_base.specs.declared.entry.Entry.TheVariants.{Noop, Start, End}
 use Rattle.paxos_base.specs.declared.entry.Kind.{Kind}
 use Rattle.paxos_base.specs.declared.entry.Kind.TheVariants.{Launch, Void}
 use Rattle.paxos_base.specs.declared.rows.JobRow.{JobRow}
-use Rattle.cluster_sched.specs.Names.{IsDayNear, IsTimeNear, job_kind, kind_of}
-use Rattle.due_set.specs.Table.{IsAfter, IsSound, Table}
-use Rattle.due_set.specs.declared.job.JobKind.{JobKind}
-use Rattle.due_set.specs.declared.job.JobKind.TheVariants.{Anacron}
+use Rattle.cluster_sched.specs.Names.{IsDayNear, IsTimeNear}
+use Rattle.due_set.specs.Table.{IsAfter, IsSound, Table, is_by_period}
+use Rattle.due_set.proofs.NamedLemmas.{due_says, opening_says}
 use Rattle.launch_machine.specs.Clerk.{Applies, AppliesAll, MayStart, closed_row, first_rows, opened_row, table_size}
 use Rattle.launch_machine.proofs.MachineLemmas.{set_here, set_there}
 use Rattle.std.proofs.lemmas.Bool.{cases_eq}
@@ -48,20 +47,21 @@ day_near window zone now date inside is =
     }
 
 -- a launch that may be started is of an instant of the window, or on a day near it
-pub start_near : (table : Table) (job : ℕ) (row : JobRow) (at now : ℤ) → MayStart table job row at now → IsTimeNear table.window (job_kind table job) at
-start_near table job row at now (inl (next, come)) =
-    subst (λ kind. IsTimeNear table.window kind at) (sym (ap kind_of next.due.is_in.is_job ∙ next.due.kind)) next.due.inside
-start_near table job row at now (inr opens) =
-    subst (λ kind. IsTimeNear table.window kind at) (sym (ap kind_of opens.is_in.is_job ∙ opens.kind)) (day_near table.window opens.zone now at opens.inside opens.is_date)
+pub start_near : (table : Table) (job : ℕ) (row : JobRow) (at now : ℤ) → IsSound table → MayStart table job row at now → IsTimeNear table.window (is_by_period table job) at
+start_near table job row at now sound (inl (next, come)) =
+    subst (λ by_period. IsTimeNear table.window by_period at) (sym (due_says table 0 job at sound next.due)) next.due.inside
+start_near table job row at now sound (inr opens) =
+    subst (λ by_period. IsTimeNear table.window by_period at) (sym (opening_says table 0 job row.last row.cursor now at sound opens))
+    (day_near table.window opens.zone now at opens.inside opens.is_date)
 
 -- two launches of a job are fewer minutes, or fewer days, apart than a window has minutes
-near_apart : (window : Window) (kind : JobKind) (first at : ℤ) → IsWithinLimits window → IsTimeNear window kind first → IsTimeNear window kind at → (at -ℤ first) <ℤ pos 576_000
-near_apart window (Anacron period first_minute last_minute) first at limits near beside =
+near_apart : (window : Window) (by_period : Bool) (first at : ℤ) → IsWithinLimits window → IsTimeNear window by_period first → IsTimeNear window by_period at → (at -ℤ first) <ℤ pos 576_000
+near_apart window true first at limits near beside =
     let since : (day_number window.from.0 -ℤ pos 2) ≤ℤ first = near.since in
     let until : at ≤ℤ (day_number (window.until.0 -ℤ pos 1) +ℤ pos 2) = beside.until in
     let short : window.until.0 ≤ℤ (window.from.0 +ℤ pos 576_000) = limits.short in
     omega (arith, signed_arith, since, until, short)
-near_apart window kind first at limits near beside =
+near_apart window false first at limits near beside =
     let since : window.from.0 ≤ℤ first = near.since in
     let before : at <ℤ window.until.0 = beside.before in
     let short : window.until.0 ≤ℤ (window.from.0 +ℤ pos 576_000) = limits.short in
@@ -81,8 +81,8 @@ begun row = row.launched + row.voided + ones row.open_now
 -- a launch of the job was first, and as many as there are minutes or days from it up to the latest have begun, at most
 record IsSpread (table : Table) (job : ℕ) (at : ℤ) (count : ℕ) : Type 0 where
   first : ℤ
-  first_near : IsTimeNear table.window (job_kind table job) first
-  near : IsTimeNear table.window (job_kind table job) at
+  first_near : IsTimeNear table.window (is_by_period table job) first
+  near : IsTimeNear table.window (is_by_period table job) at
   few : pos count ≤ℤ (at -ℤ first +ℤ pos 1)
 
 abbrev BeganBy : Table → ℕ → Option ℤ → ℕ → Type 0
@@ -101,11 +101,11 @@ put_spreads table rows job new spread now k row is = elim (cases_eq k job) [
   | inr other ↦ spread k row (sym (set_there rows job k new other) ∙ is)
 ]
 
-start_spreads : (table : Table) (job : ℕ) (row : JobRow) (at now : ℤ) → row.open_now ≡ None → MayStart table job row at now → BeganBy table job row.cursor (begun row) → IsSpread table job at (begun (opened_row at now row))
-start_spreads table job row at now idle may spread = go row.cursor (may_start_later table job row at now may) spread
+start_spreads : (table : Table) (job : ℕ) (row : JobRow) (at now : ℤ) → IsSound table → row.open_now ≡ None → MayStart table job row at now → BeganBy table job row.cursor (begun row) → IsSpread table job at (begun (opened_row at now row))
+start_spreads table job row at now sound idle may spread = go row.cursor (may_start_later table job row at now may) spread
   where
-    near : IsTimeNear table.window (job_kind table job) at
-    near = start_near table job row at now may
+    near : IsTimeNear table.window (is_by_period table job) at
+    near = start_near table job row at now sound may
 
     none : ones row.open_now ≡ 0
     none = ap ones idle
@@ -128,22 +128,22 @@ end_spreads table job row at since Void is_open spread =
 
 -- ---- entries
 
-after_spreads : (table : Table) (rows : List JobRow) (entry : Entry) (middle : List JobRow) → AreSpread table rows → Applies table rows entry middle → AreSpread table middle
-after_spreads table rows Noop middle spread (inl (takes, is)) = absurd takes
-after_spreads table rows (Start job at now) middle spread (inl (takes, is)) =
-    let new = start_spreads table job takes.row at now takes.idle takes.may (spread job takes.row takes.is_row) in
+after_spreads : (table : Table) (rows : List JobRow) (entry : Entry) (middle : List JobRow) → IsSound table → AreSpread table rows → Applies table rows entry middle → AreSpread table middle
+after_spreads table rows Noop middle sound spread (inl (takes, is)) = absurd takes
+after_spreads table rows (Start job at now) middle sound spread (inl (takes, is)) =
+    let new = start_spreads table job takes.row at now sound takes.idle takes.may (spread job takes.row takes.is_row) in
     rw is (put_spreads table rows job (opened_row at now (get_or rows job (fresh_row job))) spread
     (subst (λ (row : JobRow). IsSpread table job at (begun (opened_row at now row))) (sym (get_or_from_slice_get rows job takes.row (fresh_row job) takes.is_row)) new))
-after_spreads table rows (End job at kind) middle spread (inl (takes, is)) =
+after_spreads table rows (End job at kind) middle sound spread (inl (takes, is)) =
     let new = end_spreads table job takes.row at takes.since kind takes.is_open (spread job takes.row takes.is_row) in
     rw is (put_spreads table rows job (closed_row at kind (get_or rows job (fresh_row job))) spread
     (subst (λ (row : JobRow). BeganBy table job (closed_row at kind row).cursor (begun (closed_row at kind row))) (sym (get_or_from_slice_get rows job takes.row (fresh_row job) takes.is_row)) new))
-after_spreads table rows entry middle spread (inr (none, is)) = rw is spread
+after_spreads table rows entry middle sound spread (inr (none, is)) = rw is spread
 
-all_spread : (table : Table) (rows : List JobRow) (entries : List Entry) (last : List JobRow) → AreSpread table rows → AppliesAll table rows entries last → AreSpread table last
-all_spread table rows [] last spread is = rw is spread
-all_spread table rows (entry ∷ entries) last spread (middle, applies, rest) =
-    all_spread table middle entries last (after_spreads table rows entry middle spread applies) rest
+all_spread : (table : Table) (rows : List JobRow) (entries : List Entry) (last : List JobRow) → IsSound table → AreSpread table rows → AppliesAll table rows entries last → AreSpread table last
+all_spread table rows [] last sound spread is = rw is spread
+all_spread table rows (entry ∷ entries) last sound spread (middle, applies, rest) =
+    all_spread table middle entries last sound (after_spreads table rows entry middle sound spread applies) rest
 
 none_begun : (table : Table) (from count job : ℕ) (row : JobRow) → slice_get (map fresh_row (range_with_len from count)) job ≡ Some row → (j : ℕ) → BeganBy table j row.cursor (begun row)
 none_begun table from zero job row is j = absurd cc
@@ -158,7 +158,7 @@ few_begun table job row sound spread = go row.cursor spread
     go None none = omega (arith, none)
     go (Some at) is =
         let few : pos (begun row) ≤ℤ (at -ℤ is.first +ℤ pos 1) = is.few in
-        let short : (at -ℤ is.first) <ℤ pos 576_000 = near_apart table.window (job_kind table job) is.first at sound.limits is.first_near is.near in
+        let short : (at -ℤ is.first) <ℤ pos 576_000 = near_apart table.window (is_by_period table job) is.first at sound.limits is.first_near is.near in
         omega (arith, ints, few, short)
 
 -- the place of what is in a list
@@ -172,7 +172,7 @@ place_of (y ∷ xs) x has = elim (cons_cases y xs x has) [
 -- the counts of a launch table are below 2^20
 pub few_launched : (table : Table) (entries : List Entry) (last : List JobRow) → IsSound table → AppliesAll table (first_rows table) entries last → AreRowsBelow (2 ^ 20) last
 few_launched table entries last sound applied =
-    let spread = all_spread table (first_rows table) entries last (λ job row is. none_begun table 0 (row_count (table_size table)) job row is job) applied in
+    let spread = all_spread table (first_rows table) entries last sound (λ job row is. none_begun table 0 (row_count (table_size table)) job row is job) applied in
     all_in (λ row. (row.launched < 2 ^ 20) × (row.voided < 2 ^ 20)) last (λ row has.
     let at = place_of last row has in
     let few = few_begun table at.0 row sound (spread at.0 row at.1) in

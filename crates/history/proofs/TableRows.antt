@@ -1,7 +1,7 @@
 -- The rows of the clerk stay those of the table, whose own row no entry changes.
-use Rattle.std.proofs.Common.{◌≡◌, ◌≢◌, ℕ, ◌<◌, inl, inr, None, Some, List, [], ◌∷◌, length, get_or, slice_set, ℤ, true, refl, sym, ap, ◌∙◌, subst, arith}
+use Rattle.std.proofs.Common.{◌≡◌, ◌≢◌, ℕ, ◌<◌, inl, inr, None, Some, List, [], ◌∷◌, length, get_or, slice_set, ℤ, true, leb, refl, sym, ap, ◌∙◌, subst, arith}
 use Rattle.std.specs.List.{Contains, slice_get}
-use Rattle.std.proofs.lemmas.Bool.{cases_eq, eq-eqb, ne_eqb}
+use Rattle.std.proofs.lemmas.Bool.{and_from, cases_eq, eq-eqb, le-leb, ne_eqb}
 use Rattle.std.proofs.lemmas.Option.{get_or_from_slice_get, slice_get-get_or, slice_get_within}
 use Rattle.paxos_base.specs.Rows.{AreNumbered, RowsStand, fits_table, fresh_row, is_table_row, row_count}
 use Rattle.paxos_base.specs.declared.entry.Entry.{Entry}
@@ -20,6 +20,10 @@ pub record HasFirstVersion (table : Table) (rows : List JobRow) : Type 0 where
   pub numbered : AreNumbered rows (row_count (table_size table))
   pub fresh : slice_get rows (length table.jobs) ≡ Some (fresh_row (length table.jobs))
 
+-- the table's row at first is of a version of it
+first_row_fits : (last_version job : ℕ) → is_table_row last_version (fresh_row job) ≡ true
+first_row_fits last_version job = and_from (leb 0 last_version) true (le-leb 0 last_version (omega arith)) refl
+
 -- a row that stands there fits the table
 pub fits_there : (table : Table) (rows : List JobRow) (k : ℕ) (row : JobRow) → HasFirstVersion table rows → slice_get rows k ≡ Some row → fits_table (table_size table) row ≡ true
 fits_there table rows k row version is = elim (cases_eq row.job (length table.jobs)) [
@@ -27,7 +31,7 @@ fits_there table rows k row version is = elim (cases_eq row.job (length table.jo
       let at : k ≡ length table.jobs = sym (version.numbered.in_order k row is) ∙ same in
       let here : slice_get rows (length table.jobs) ≡ Some row = subst (λ (i : ℕ). slice_get rows i ≡ Some row) at is in
       let row_is : fresh_row (length table.jobs) ≡ row = same_row rows (length table.jobs) (fresh_row (length table.jobs)) row version.fresh here in
-      subst (λ (r : JobRow). fits_table (table_size table) r ≡ true) row_is (rw (eq-eqb (length table.jobs) (length table.jobs) refl) refl)
+      subst (λ (r : JobRow). fits_table (table_size table) r ≡ true) row_is (rw (eq-eqb (length table.jobs) (length table.jobs) refl) (first_row_fits (length table.later) (length table.jobs)))
   | inr other ↦ rw (ne_eqb row.job (length table.jobs) other) refl
 ]
 
@@ -42,8 +46,7 @@ first_version_stands table rows version = record {
   numbered = version.numbered;
   ends = λ row is.
       let row_is : fresh_row (length table.jobs) ≡ row = same_row rows (length table.jobs) (fresh_row (length table.jobs)) row version.fresh is in
-      let own : is_table_row 0 (fresh_row (length table.jobs)) ≡ true = refl in
-      subst (λ (r : JobRow). is_table_row 0 r ≡ true) row_is own;
+      subst (λ (r : JobRow). is_table_row (length table.later) r ≡ true) row_is (first_row_fits (length table.later) (length table.jobs));
 }
 
 -- ---- entries

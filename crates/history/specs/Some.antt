@@ -9,7 +9,7 @@ use Rattle.history.specs.declared.turn.Turn.TheVariants.{Did, Stopped, Restarted
 
 -- a table without jobs, of a window of one minute
 abbrev pub no_jobs : Table
-no_jobs = record { window = record { from = record { 0 = pos 0 }; until = record { 0 = pos 1 } }; grace = 0; zones = []; jobs = [] }
+no_jobs = record { window = record { from = record { 0 = pos 0 }; until = record { 0 = pos 1 } }; grace = 0; zones = []; jobs = []; later = [] }
 
 -- Replica 0 stands for leader; replica 1 hears of it and promises; replica 0 hears the promise and leads; its clock ticks; replica
 -- 1 hears the first letter once more, and refuses. Then replica 0 stops, and starts again; and replica 1 stops while it stands for

@@ -12,7 +12,7 @@ use Rattle.job_table.specs.Table.{AreShares, IsDueCount}
 
 -- the job at the place takes so much of the limit
 abbrev IsShareAt : Table → ℕ → ℕ → Type 0
-IsShareAt table number share = IsSomeAnd (slice_get table.jobs number) (λ job. IsShare table number job.kind share)
+IsShareAt table number share = IsSomeAnd (slice_get table.jobs number) (λ job. IsShare table 0 number job.kind share)
 
 -- so many jobs of the table, from the first on, take so much in all
 pub record CountsFirst (table : Table) (jobs total : ℕ) : Type 0 where
@@ -32,7 +32,7 @@ slice_get-push (y ∷ ys) last x zero is = inl is
 slice_get-push (y ∷ ys) last x (suc k) is =
     elim (slice_get-push ys last x k is) [ inl had ↦ inl had | inr both ↦ inr (omega (arith, both.0), both.1) ]
 
-pub CountsFirst-next : (table : Table) (jobs total share : ℕ) → CountsFirst table jobs total → IsSomeAnd (slice_get table.jobs jobs) (λ job. IsShare table jobs job.kind share)
+pub CountsFirst-next : (table : Table) (jobs total share : ℕ) → CountsFirst table jobs total → IsSomeAnd (slice_get table.jobs jobs) (λ job. IsShare table 0 jobs job.kind share)
     → CountsFirst table (jobs + 1) (total + share)
 CountsFirst-next table jobs total share known here = record {
   shares = known.shares ++ share ∷ [];
@@ -45,15 +45,15 @@ CountsFirst-next table jobs total share known here = record {
 }
 
 -- a job has one share
-IsShare-same : (table : Table) (number : ℕ) (kind : JobKind) (a b : ℕ) → IsShare table number kind a → IsShare table number kind b → a ≡ b
-IsShare-same table number (Crontab fields) a b (first, listed, is) (second, other, same) = is ∙ ap length (IsJobDueList-same table number first second listed other) ∙ sym same
+IsShare-same : (table : Table) (number : ℕ) (kind : JobKind) (a b : ℕ) → IsShare table 0 number kind a → IsShare table 0 number kind b → a ≡ b
+IsShare-same table number (Crontab fields) a b (first, listed, is) (second, other, same) = is ∙ ap length (IsJobDueList-same table 0 number first second listed other) ∙ sym same
 IsShare-same table number (Anacron period from until) a b first second = first ∙ sym second
-IsShare-same table number Never a b (first, listed, is) (second, other, same) = is ∙ ap length (IsJobDueList-same table number first second listed other) ∙ sym same
+IsShare-same table number Never a b (first, listed, is) (second, other, same) = is ∙ ap length (IsJobDueList-same table 0 number first second listed other) ∙ sym same
 
 IsShareAt-same : (table : Table) (number a b : ℕ) → IsShareAt table number a → IsShareAt table number b → a ≡ b
 IsShareAt-same table number a b first second = by (slice_get table.jobs number) first second
   where
-    by : (job : Option Job) → IsSomeAnd job (λ j. IsShare table number j.kind a) → IsSomeAnd job (λ j. IsShare table number j.kind b) → a ≡ b
+    by : (job : Option Job) → IsSomeAnd job (λ j. IsShare table 0 number j.kind a) → IsSomeAnd job (λ j. IsShare table 0 number j.kind b) → a ≡ b
     by None first second = absurd first
     by (Some job) first second = IsShare-same table number job.kind a b first second
 
@@ -82,16 +82,16 @@ counts_at_least table jobs total count known some counted =
 pub CountsFirst-all : (table : Table) (jobs total : ℕ) → CountsFirst table jobs total → jobs ≡ length table.jobs → IsDueCount table total
 CountsFirst-all table jobs total known all = record { shares = known.shares; jobs = known.jobs_are ∙ all; each = known.each; total = known.total_is }
 
-share_exists : (table : Table) → IsSound table → (number : ℕ) (kind : JobKind) → (share : ℕ) × IsShare table number kind share
-share_exists table sound number (Crontab fields) = let (instants, listed) = due_list table sound number in (length instants, (instants, listed, refl))
+share_exists : (table : Table) → IsSound table → (number : ℕ) (kind : JobKind) → (share : ℕ) × IsShare table 0 number kind share
+share_exists table sound number (Crontab fields) = let (instants, listed) = due_list table sound 0 number in (length instants, (instants, listed, refl))
 share_exists table sound number (Anacron period first last) = (days_counted table.window, refl)
-share_exists table sound number Never = let (instants, listed) = due_list table sound number in (length instants, (instants, listed, refl))
+share_exists table sound number Never = let (instants, listed) = due_list table sound 0 number in (length instants, (instants, listed, refl))
 
 share_at : (table : Table) → IsSound table → (number : ℕ) → number < length table.jobs → (share : ℕ) × IsShareAt table number share
 share_at table sound number within = elim (slice_get_cases table.jobs number).1 [
   | inl (job, inside, is, same) ↦
       let (share, taken) = share_exists table sound number job.kind in
-      (share, subst (λ (o : Option Job). IsSomeAnd o (λ j. IsShare table number j.kind share)) (sym is) taken)
+      (share, subst (λ (o : Option Job). IsSomeAnd o (λ j. IsShare table 0 number j.kind share)) (sym is) taken)
   | inr past ↦ absurd (omega (arith, past.0))
 ]
 

@@ -7,6 +7,7 @@ mod TableLemmas
 mod VerdictLemmas
 mod ZoneLemmas
 pub mod DueCountLemmas
+pub mod KindLemmas
 pub mod JobLemmas
 pub mod MarkLemmas
 pub mod NameLemmas

@@ -31,7 +31,7 @@ use Rattle.job_table.proofs.MarkLemmas.{jobs_of-append}
 
 -- ---- labels
 
-abbrev HasLabel : Section → Type 0
+abbrev pub HasLabel : Section → Type 0
 HasLabel section = IsLabel section.label
 
 -- each section above has a label
@@ -64,7 +64,7 @@ labelled_next tables number behind (Script run) next line are (inl may) = subst 
 labelled_next tables number behind (Script run) next line are (inr adds) = subst AreLabelled (sym adds.next_is) are
 labelled_next tables number behind (End run) next line are may = absurd may
 
-labelled_end : (tables : Tables) (number : ℕ) (above : Above) (lines : List (List ℕ)) (run : Run) → AreLabelled above → ReadsFrom tables number above lines run → AllByRecursion HasLabel run.sections
+pub labelled_end : (tables : Tables) (number : ℕ) (above : Above) (lines : List (List ℕ)) (run : Run) → AreLabelled above → ReadsFrom tables number above lines run → AllByRecursion HasLabel run.sections
 labelled_end tables number above [] run are is = subst AreLabelled is are
 labelled_end tables number above (line ∷ lines) run are (next, may, reads) =
     labelled_end tables (number + 1) next lines run (labelled_next tables number (length lines) above next line are may) reads

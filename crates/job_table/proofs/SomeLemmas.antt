@@ -7,6 +7,7 @@ use Rattle.std.proofs.lemmas.Slice.Eq.{bytes_eq-Decides}
 use Rattle.std.proofs.lemmas.Bool.Decides.{nat_tests}
 use Rattle.std.specs.Prelude.{bytes_eq, nat_lt}
 use Rattle.crontab_text.specs.Lines.{lines_of}
+use Rattle.due_set.proofs.SoundLemmas.{no_later}
 use Rattle.due_set.specs.Table.{Job, Table, AreNamesDistinct, AreZonesBelow, IsBuiltFor, utc_over}
 use Rattle.run_text.specs.Reading.{IsRunText}
 use Rattle.run_text.specs.Run.{NamedZone, Run}
@@ -25,6 +26,7 @@ use Rattle.job_table.proofs.DueCountLemmas.{due_count}
 use Rattle.job_table.proofs.JobLemmas.{distinct_push}
 use Rattle.job_table.proofs.MarkLemmas.{adds_zone, adds_job, refuses_zone, refuses_job}
 use Rattle.job_table.proofs.RunLemmas.{marks_exist}
+use Rattle.job_table.proofs.KindLemmas.{kinds_of_run}
 use Rattle.job_table.proofs.TableLemmas.{zones_below}
 use Rattle.job_table.proofs.ZoneLemmas.{zones_count}
 
@@ -179,6 +181,8 @@ some_verdict text run says decided =
             zone_numbers = subst (λ n. AreZonesBelow n (jobs_of marks)) (zones_count run.window run.zones (zones_over run.window run.zones) refl) (zones_below run.zones run.sections marks are taken.collected.sound);
             few = few;
             distinct = subst AreNamesDistinct taken.collected.are taken.distinct;
+            kinds = kinds_of_run text run marks says are;
+            versions = no_later (table_of run marks);
           }))
         ]
       ]

@@ -1,5 +1,5 @@
 -- A run whose table isn't taken.
-use Rattle.std.proofs.Common.{◌≡◌, ℕ, ◌<◌, ◌≤◌, List, length, refl, ap, ◌∙◌, subst, inr}
+use Rattle.std.proofs.Common.{◌≡◌, ℕ, ◌<◌, ◌≤◌, List, [], length, refl, ap, ◌∙◌, subst, inr}
 use Rattle.due_set.specs.Table.{Job, Table, IsSound}
 use Rattle.run_text.specs.Run.{Run}
 use Rattle.run_text.specs.declared.refusal.Refusal.{Refusal}
@@ -11,7 +11,7 @@ use Rattle.zone_minutes.specs.Zone.{Zone}
 
 -- a table of these zones and these jobs
 abbrev pub table_with : Run → List Zone → List Job → Table
-table_with run zones jobs = record { window = run.window; grace = run.grace; zones = zones; jobs = jobs }
+table_with run zones jobs = record { window = run.window; grace = run.grace; zones = zones; jobs = jobs; later = [] }
 
 -- a table of the run's zones and jobs is the one of its marks
 pub table_is : (run : Run) (zones : List Zone) (jobs : List Job) (table : Table) (marks : HasMarkedJobs run jobs) → table ≡ table_with run zones jobs → zones ≡ zones_over run.window run.zones

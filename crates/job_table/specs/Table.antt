@@ -20,12 +20,12 @@ jobs_of (MarksJob line name zone kind ∷ marks) = record { name = name; zone = 
 -- the table of a run with these marks
 abbrev pub table_of : Run → List Mark → Table
 table_of run marks =
-    record { window = run.window; grace = run.grace; zones = zones_over run.window run.zones; jobs = jobs_of marks }
+    record { window = run.window; grace = run.grace; zones = zones_over run.window run.zones; jobs = jobs_of marks; later = [] }
 
 -- each number is how much the job at its place takes of the limit on due instants
 abbrev pub AreShares : Table → List ℕ → Type 0
 AreShares table shares =
-    (number share : ℕ) → slice_get shares number ≡ Some share → IsSomeAnd (slice_get table.jobs number) (λ job. IsShare table number job.kind share)
+    (number share : ℕ) → slice_get shares number ≡ Some share → IsSomeAnd (slice_get table.jobs number) (λ job. IsShare table 0 number job.kind share)
 
 -- how much the jobs of a table take of the limit on due instants in all
 pub record IsDueCount (table : Table) (count : ℕ) : Type 0 where

@@ -14,7 +14,7 @@ pub fn count_due(table: &JobTable) -> Option<u32>
 {
     let mut total = 0;
     for job in 0..table.jobs() {
-        let share = table.count_due(job);
+        let share = table.count_due(0, job);
         if share > MOST_DUE - total {
             return None;
         }

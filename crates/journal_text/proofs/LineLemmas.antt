@@ -5,13 +5,11 @@ use Rattle.std.specs.List.{AllByRecursion}
 use Rattle.zone_minutes.specs.Stamp.{basic_stamp_text, date_text, stamp_text}
 use Rattle.zone_minutes.specs.Window.{IsWithinLimits}
 use Rattle.zone_minutes.specs.declared.minute.Minute.{Minute}
-use Rattle.due_set.specs.Table.{Job, Table}
+use Rattle.due_set.specs.Table.{Job, Table, is_by_period, job_name, name_of}
 use Rattle.due_set.proofs.TableLemmas.{All-slice_get}
-use Rattle.due_set.specs.declared.job.JobKind.{JobKind}
-use Rattle.due_set.specs.declared.job.JobKind.TheVariants.{Anacron, Crontab, Never}
 use Rattle.paxos_base.specs.declared.entry.Kind.{Kind}
 use Rattle.paxos_base.specs.declared.entry.Kind.TheVariants.{Launch, Void}
-use Rattle.cluster_sched.specs.Names.{job_kind, job_name, name_of, name_text, time_text}
+use Rattle.cluster_sched.specs.Names.{name_text, time_text}
 use Rattle.cluster_sched.specs.declared.fate.Fate.{Fate}
 use Rattle.cluster_sched.specs.declared.fate.Fate.TheVariants.{Done, LostBefore, LostAfter, Late}
 use Rattle.cluster_sched.specs.declared.row.Name.{Name}
@@ -45,11 +43,10 @@ no_tab n e = omega arith
 abbrev Unblank : List ℕ → Type 0
 Unblank text = AllByRecursion IsUnblank text
 
-time_unblank : (kind : JobKind) (at : ℤ) → Unblank (time_text kind at)
+time_unblank : (by_period : Bool) (at : ℤ) → Unblank (time_text by_period at)
 unfolding basic_stamp_text date_text
-time_unblank (Anacron period first last) at = search (rules, digit_no_space, no_tab)
-time_unblank (Crontab fields) at = search (rules, digit_no_space, no_tab)
-time_unblank Never at = search (rules, digit_no_space, no_tab)
+time_unblank true at = search (rules, digit_no_space, no_tab)
+time_unblank false at = search (rules, digit_no_space, no_tab)
 
 joined_unblank : (front back : List ℕ) → Unblank front → Unblank back → Unblank (front ++ back)
 joined_unblank [] back one two = two
@@ -69,9 +66,9 @@ some_in (c ∷ cs) back byte = omega arith
 name_is_word : (table : Table) (name : Name) → HasUnblankNames table → IsAnyName (name_text table name)
 name_is_word table name names =
     record {
-      some = some_in (job_name table name.job) (time_text (job_kind table name.job) name.at) 64;
-      unblank = joined_unblank (job_name table name.job) (64 ∷ time_text (job_kind table name.job) name.at) (job_unblank table name.job names)
-          ((search (rules, arith)), time_unblank (job_kind table name.job) name.at);
+      some = some_in (job_name table name.job) (time_text (is_by_period table name.job) name.at) 64;
+      unblank = joined_unblank (job_name table name.job) (64 ∷ time_text (is_by_period table name.job) name.at) (job_unblank table name.job names)
+          ((search (rules, arith)), time_unblank (is_by_period table name.job) name.at);
     }
 
 -- ---- texts

@@ -10,7 +10,7 @@ use Rattle.zone_minutes.specs.Window.{IsInWindow, IsWithinLimits}
 use Rattle.zone_minutes.specs.declared.minute.Window.{Window}
 use Rattle.cluster_sched.specs.Names.{IsNameIn}
 use Rattle.cluster_sched.specs.declared.row.SchedRow.{SchedRow}
-use Rattle.due_set.specs.Table.{Table}
+use Rattle.due_set.specs.Table.{IsSound, Table}
 use Rattle.launch_machine.specs.Clerk.{first_rows}
 use Rattle.step_spec.specs.Step.{Event}
 use Rattle.history.specs.Book.{Row, Standing, after_row, standing_after}
@@ -45,7 +45,7 @@ stamped members table standing who (Tick now) event limits is = calendar table.w
 stamped members table standing who (Hear number) event limits is = tt
 stamped members table standing who Answer event limits is = tt
 
-module _ (members : ℕ) (table : Table) (before : List Row) (row : Row) (few : members ≤ 7) (legal : IsLegal members table (before ++ row ∷ [])) where
+module _ (members : ℕ) (table : Table) (before : List Row) (row : Row) (few : members ≤ 7) (sound : IsSound table) (legal : IsLegal members table (before ++ row ∷ [])) where
   abbrev stands : Standing
   stands = standing_after members (first_rows table) before
 
@@ -59,7 +59,7 @@ module _ (members : ℕ) (table : Table) (before : List Row) (row : Row) (few : 
       ∙ ap (λ (had : Turn). (after_row members stands had row.event row.letters).waits who) turn
       ∙ waits_made members stands who cause made row.event row.letters ∙ is in
       All-contains (λ (held : SchedRow). IsNameIn table held.name) (held_in members table (before ++ row ∷ [])) found
-      (named table members (before ++ row ∷ []) few legal)
+      (named table members (before ++ row ∷ []) few sound legal)
       (waiting_held members table (before ++ row ∷ []) who found few legal waits)
 
   answered_by : (who : ℕ) (cause : Cause) (made : Option CallRow) → row.turn ≡ Did who cause made → IsAnsweredBy table made
@@ -77,18 +77,18 @@ module _ (members : ℕ) (table : Table) (before : List Row) (row : Row) (few : 
   told_turn (Restarted who) is limits may = tt
   told_turn (Arrived number) is limits may = tt
 
-told_row : (members : ℕ) (table : Table) (rows : List Row) (k : ℕ) (d : Row) → members ≤ 7 → IsWithinLimits table.window → IsLegal members table rows → k < length rows
+told_row : (members : ℕ) (table : Table) (rows : List Row) (k : ℕ) (d : Row) → members ≤ 7 → IsSound table → IsLegal members table rows → k < length rows
     → CanBeTold table (get_or rows k d).turn
-told_row members table rows k d few limits legal lt =
+told_row members table rows k d few sound legal lt =
     let row = get_or rows k d in
     let front : take (k + 1) rows ≡ take k rows ++ row ∷ [] = take_more rows k d lt in
-    told_turn members table (take k rows) row few (subst (IsLegal members table) front (cut_is_legal members table rows (k + 1) legal))
-    row.turn refl limits (legal k row (slice_get-get_or rows k d lt))
+    told_turn members table (take k rows) row few sound (subst (IsLegal members table) front (cut_is_legal members table rows (k + 1) legal))
+    row.turn refl sound.limits (legal k row (slice_get-get_or rows k d lt))
 
 -- the turns of a legal book can be told
-pub told_turns : (table : Table) (rows : List Row) (book : BookState) → book.members ≤ 7 → IsWithinLimits table.window → StandsBehind table rows book
+pub told_turns : (table : Table) (rows : List Row) (book : BookState) → book.members ≤ 7 → IsSound table → StandsBehind table rows book
     → All (CanBeTold table) book.turns
-told_turns table rows book few limits behind =
+told_turns table rows book few sound behind =
     subst (All (CanBeTold table)) (sym behind.turns)
     (All-map (CanBeTold table) (λ (row : Row). row.turn) rows
-    (λ k d lt. told_row book.members table rows k d few limits behind.legal lt))
+    (λ k d lt. told_row book.members table rows k d few sound behind.legal lt))

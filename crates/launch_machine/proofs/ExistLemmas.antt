@@ -24,11 +24,11 @@ same_kind_or_not Launch Void = inr (λ e. cc)
 same_kind_or_not Void Launch = inr (λ e. cc)
 same_kind_or_not Void Void = inl refl
 
-decided_next : (table : Table) → IsSound table → (job : ℕ) (cursor : Option ℤ) (at : ℤ) → IsDecided (IsNextDue table job cursor at)
-decided_next table sound job cursor at = elim (next_or_none table sound job cursor) [
+decided_next : (table : Table) → IsSound table → (job : ℕ) (cursor : Option ℤ) (at : ℤ) → IsDecided (IsNextDue table 0 job cursor at)
+decided_next table sound job cursor at = elim (next_or_none table sound 0 job cursor) [
   | inl (first, next) ↦ elim (decided_same first at) [
-    | inl e ↦ inl (subst (IsNextDue table job cursor) e next)
-    | inr ne ↦ inr (λ other. ne (IsNextDue-same table job cursor first at next other))
+    | inl e ↦ inl (subst (IsNextDue table 0 job cursor) e next)
+    | inr ne ↦ inr (λ other. ne (IsNextDue-same table 0 job cursor first at next other))
   ]
   | inr none ↦ inr (λ other. none at other.due other.later)
 ]
@@ -36,12 +36,12 @@ decided_next table sound job cursor at = elim (next_or_none table sound job curs
 -- whether the job's launch may be started
 may_start_or_not : (table : Table) → IsSound table → (job : ℕ) (row : JobRow) (at now : ℤ) → IsDecided (MayStart table job row at now)
 may_start_or_not table sound job row at now =
-    decided_either (IsNextDue table job row.cursor at × (at ≤ℤ now)) (IsJobOpen table job row.last row.cursor now at)
-    (decided_both (IsNextDue table job row.cursor at) (at ≤ℤ now) (decided_next table sound job row.cursor at) (decided_le at now))
-    (elim (open_or_not table job row.last row.cursor now sound) [
+    decided_either (IsNextDue table 0 job row.cursor at × (at ≤ℤ now)) (IsJobOpen table 0 job row.last row.cursor now at)
+    (decided_both (IsNextDue table 0 job row.cursor at) (at ≤ℤ now) (decided_next table sound job row.cursor at) (decided_le at now))
+    (elim (open_or_not table 0 job row.last row.cursor now sound) [
       | inl (date, opens) ↦ elim (decided_same date at) [
-        | inl e ↦ inl (subst (IsJobOpen table job row.last row.cursor now) e opens)
-        | inr ne ↦ inr (λ other. ne (opens_on_one_date table job row.last row.cursor now date at opens other))
+        | inl e ↦ inl (subst (IsJobOpen table 0 job row.last row.cursor now) e opens)
+        | inr ne ↦ inr (λ other. ne (opens_on_one_date table 0 job row.last row.cursor now date at opens other))
       ]
       | inr none ↦ inr (none at)
     ])

@@ -1,5 +1,5 @@
 -- A machine's rows and what stands beside them, and what a change of one place leaves.
-use Rattle.std.proofs.Common.{◌≡◌, ◌≢◌, ℕ, zero, suc, ◌+◌, ◌<◌, ◌≤◌, inl, inr, ◌↔◌, List, [], ◌∷◌, ◌++◌, length, get_or, Option, None, Some, ℤ, ◌≤ℤ◌, Bool, IsTrue, true, false, refl, sym, ap, ◌∙◌, subst, arith, length-append}
+use Rattle.std.proofs.Common.{◌≡◌, ◌≢◌, ℕ, zero, suc, ◌+◌, ◌<◌, ◌≤◌, inl, inr, ◌↔◌, List, [], ◌∷◌, ◌++◌, length, get_or, Option, None, Some, ℤ, ◌≤ℤ◌, Bool, IsTrue, true, false, true≢false, refl, sym, ap, ◌∙◌, subst, arith, length-append}
 use Rattle.std.specs.Prelude.{map, not, is_some, IfNone, IfOk, IfSome, IsSome, Result, Ok, Err, slice_get, slice_set}
 use Rattle.std.proofs.Math.ListN.{length-set}
 use Rattle.std.proofs.lemmas.Bool.{and_parts, cases_eq, false≢true}
@@ -14,9 +14,12 @@ use Rattle.paxos_base.specs.declared.entry.Kind.{Kind}
 use Rattle.paxos_base.specs.declared.entry.Kind.TheVariants.{Launch, Void}
 use Rattle.jiff.specs.Types.{TimeZone}
 use Rattle.due_set.specs.Calls.{HasCome}
+use Rattle.due_set.specs.declared.job.JobKind.{JobKind}
+use Rattle.due_set.specs.declared.job.JobKind.TheVariants.{Anacron, Crontab, Never}
 use Rattle.due_set.specs.Anacron.{IsFirstOpening, IsJobOpen}
-use Rattle.due_set.specs.Table.{Job, Table, IsAfter, IsAnacron, IsJobDue, IsJobIn, IsNextDue, IsJobRead, IsRunByPeriod}
+use Rattle.due_set.specs.Table.{Job, Table, IsAfter, IsAnacron, IsJobDue, IsJobIn, IsNextDue, IsJobRead, IsRunByPeriod, IsKindOfName, IsSound, is_by_period, is_period_name, name_of}
 use Rattle.due_set.proofs.CountLemmas.{IsNextDue-same}
+use Rattle.due_set.proofs.NamedLemmas.{due_says, kind_of_name, opening_says}
 use Rattle.due_set.proofs.SoundLemmas.{at_place}
 use Rattle.due_set.proofs.OpenLemmas.{opens_on_one_date}
 use Rattle.due_set.proofs.TableLemmas.{IsRunByPeriod-kind}
@@ -138,27 +141,48 @@ beside_row holds rows values job row known is_row =
 -- ---- when a job may be started
 
 -- a job that may open runs by its period
-pub opens_by_period : (table : Table) (job : ℕ) (last cursor : Option ℤ) (now date : ℤ) → IsJobOpen table job last cursor now date → IsRunByPeriod table job
+pub opens_by_period : (table : Table) (job : ℕ) (last cursor : Option ℤ) (now date : ℤ) → IsJobOpen table 0 job last cursor now date → IsRunByPeriod table job
 opens_by_period table job last cursor now date opens = (opens.job, opens.is_in.is_job, subst IsAnacron (sym opens.kind) tt)
 
 -- and one that is due at an instant doesn't
-pub due_by_instant : (table : Table) (job : ℕ) (at : ℤ) → IsJobDue table job at → IsRunByPeriod table job → ⊥
+pub due_by_instant : (table : Table) (job : ℕ) (at : ℤ) → IsJobDue table 0 job at → IsRunByPeriod table job → ⊥
 due_by_instant table job at due by = subst IsAnacron due.kind (IsRunByPeriod-kind table job due.job due.is_in.is_job by)
 
 -- a job that doesn't run by its period may be started at its next due instant alone
 pub may_start_at : (table : Table) (job : ℕ) (row : JobRow) (at now : ℤ) → (IsRunByPeriod table job → ⊥) → MayStart table job row at now
-    → IsNextDue table job row.cursor at × (at ≤ℤ now)
+    → IsNextDue table 0 job row.cursor at × (at ≤ℤ now)
 may_start_at table job row at now other (inl next) = next
 may_start_at table job row at now other (inr opens) = absurd (other (opens_by_period table job row.last row.cursor now at opens))
 
 -- and one that runs by its period, on a date
 pub may_start_on : (table : Table) (job : ℕ) (row : JobRow) (at now : ℤ) → IsRunByPeriod table job → MayStart table job row at now
-    → IsJobOpen table job row.last row.cursor now at
+    → IsJobOpen table 0 job row.last row.cursor now at
 may_start_on table job row at now by (inr opens) = opens
 may_start_on table job row at now by (inl (next, come)) = absurd (due_by_instant table job at next.due by)
 
+-- a job whose name doesn't say that it runs by a period has no such kind
+not_anacron : (table : Table) (job : ℕ) (spec : Job) → IsSound table → is_by_period table job ≡ false → slice_get table.jobs job ≡ Some spec → IsAnacron spec.kind → ⊥
+not_anacron table job spec sound not is_job is =
+    let says : is_by_period table job ≡ is_period_name spec.name = ap (λ found. is_period_name (name_of found)) is_job in
+    true≢false (sym (named spec.kind (kind_of_name table 0 job spec sound is_job) is) ∙ sym says ∙ not)
+  where
+    named : (kind : JobKind) → IsKindOfName spec.name kind → IsAnacron kind → is_period_name spec.name ≡ true
+    named (Anacron period first last) says is = says
+    named (Crontab fields) says is = absurd is
+    named Never says is = absurd is
+
+-- and its launch has come at its instant
+pub come_by_instant : (table : Table) (job : ℕ) (spec : Job) (zone : TimeZone) (at now : ℤ) → IsSound table → is_by_period table job ≡ false → IsJobIn table 0 job spec zone
+    → HasCome spec.kind zone at now → at ≤ℤ now
+come_by_instant table job spec zone at now sound not is_in come = by spec.kind (not_anacron table job spec sound not is_in.is_job) come
+  where
+    by : (kind : JobKind) → (IsAnacron kind → ⊥) → HasCome kind zone at now → at ≤ℤ now
+    by (Anacron period first last) none come = absurd (none tt)
+    by (Crontab fields) none come = come
+    by Never none come = come
+
 -- the first instant at which it may be started is its next due one
-pub first_is_next : (table : Table) (job : ℕ) (row : JobRow) (first : ℤ) → IsNextDue table job row.cursor first → IsFirstToStart table job row first
+pub first_is_next : (table : Table) (job : ℕ) (row : JobRow) (first : ℤ) → IsNextDue table 0 job row.cursor first → IsFirstToStart table job row first
 first_is_next table job row first next = record {
   at = first;
   may = inl (next, omega (arith, ints));
@@ -169,15 +193,27 @@ first_is_next table job row first next = record {
       omega (arith, ints);
 }
 
+-- by its name a job is started on a date, or at its next due instant
+pub may_start_by : (table : Table) (job : ℕ) (row : JobRow) (at now : ℤ) → IsSound table → is_by_period table job ≡ true → MayStart table job row at now
+    → IsJobOpen table 0 job row.last row.cursor now at
+may_start_by table job row at now sound by (inr opens) = opens
+may_start_by table job row at now sound by (inl (next, come)) = absurd (true≢false (sym by ∙ due_says table 0 job at sound next.due))
+
+may_start_next : (table : Table) (job : ℕ) (row : JobRow) (at now : ℤ) → IsSound table → is_by_period table job ≡ false → MayStart table job row at now
+    → IsNextDue table 0 job row.cursor at × (at ≤ℤ now)
+may_start_next table job row at now sound not (inl next) = next
+may_start_next table job row at now sound not (inr opens) =
+    absurd (true≢false (sym (opening_says table 0 job row.last row.cursor now at sound opens) ∙ not))
+
 -- and where none is left it may not be started
-pub no_next_start : (table : Table) (job : ℕ) (row : JobRow) → (IsRunByPeriod table job → ⊥) → ((t : ℤ) → IsJobDue table job t → IsAfter row.cursor t → ⊥)
+no_next_start : (table : Table) (job : ℕ) (row : JobRow) → IsSound table → is_by_period table job ≡ false → ((t : ℤ) → IsJobDue table 0 job t → IsAfter row.cursor t → ⊥)
     → (at now : ℤ) → MayStart table job row at now → ⊥
-no_next_start table job row other none at now may =
-    let next = (may_start_at table job row at now other may).0 in
+no_next_start table job row sound not none at now may =
+    let next = (may_start_next table job row at now sound not may).0 in
     none at next.due next.later
 
 -- the first instant at which it may open
-pub first_is_opening : (table : Table) (job : ℕ) (row : JobRow) (first : ℤ) → IsFirstOpening table job row.last row.cursor first → IsFirstToStart table job row first
+pub first_is_opening : (table : Table) (job : ℕ) (row : JobRow) (first : ℤ) → IsFirstOpening table 0 job row.last row.cursor first → IsFirstToStart table job row first
 first_is_opening table job row first opening = record {
   at = opening.date;
   may = inr opening.opens;
@@ -186,35 +222,35 @@ first_is_opening table job row first opening = record {
       (may_start_on table job row other now (opens_by_period table job row.last row.cursor first opening.date opening.opens) may);
 }
 
-pub no_opening_start : (table : Table) (job : ℕ) (row : JobRow) → IsRunByPeriod table job
-    → ((now date : ℤ) → IsJobOpen table job row.last row.cursor now date → ⊥) → (at now : ℤ) → MayStart table job row at now → ⊥
-no_opening_start table job row by none at now may = none now at (may_start_on table job row at now by may)
+no_opening_start : (table : Table) (job : ℕ) (row : JobRow) → IsSound table → is_by_period table job ≡ true
+    → ((now date : ℤ) → IsJobOpen table 0 job row.last row.cursor now date → ⊥) → (at now : ℤ) → MayStart table job row at now → ⊥
+no_opening_start table job row sound by none at now may = none now at (may_start_by table job row at now sound by may)
 
 -- what was found is the first instant
-pub first_by_due : (table : Table) (job : ℕ) (row : JobRow) (found : Option ℤ) → (IsRunByPeriod table job → ⊥) → IfSome found (IsNextDue table job row.cursor)
-    → IfNone found ((t : ℤ) → IsJobDue table job t → IsAfter row.cursor t → ⊥) → IsFirstStartOf table job row found
-first_by_due table job row (Some first) other next none = first_is_next table job row first next
-first_by_due table job row None other next none = no_next_start table job row other none
+pub first_by_due : (table : Table) (job : ℕ) (row : JobRow) (found : Option ℤ) → IsSound table → is_by_period table job ≡ false → IfSome found (IsNextDue table 0 job row.cursor)
+    → IfNone found ((t : ℤ) → IsJobDue table 0 job t → IsAfter row.cursor t → ⊥) → IsFirstStartOf table job row found
+first_by_due table job row (Some first) sound not next none = first_is_next table job row first next
+first_by_due table job row None sound not next none = no_next_start table job row sound not none
 
-pub first_by_opening : (table : Table) (job : ℕ) (row : JobRow) (found : Option ℤ) → IsRunByPeriod table job → IfSome found (IsFirstOpening table job row.last row.cursor)
-    → IfNone found ((now date : ℤ) → IsJobOpen table job row.last row.cursor now date → ⊥) → IsFirstStartOf table job row found
-first_by_opening table job row (Some first) by opening none = first_is_opening table job row first opening
-first_by_opening table job row None by opening none = no_opening_start table job row by none
+pub first_by_opening : (table : Table) (job : ℕ) (row : JobRow) (found : Option ℤ) → IsSound table → is_by_period table job ≡ true → IfSome found (IsFirstOpening table 0 job row.last row.cursor)
+    → IfNone found ((now date : ℤ) → IsJobOpen table 0 job row.last row.cursor now date → ⊥) → IsFirstStartOf table job row found
+first_by_opening table job row (Some first) sound by opening none = first_is_opening table job row first opening
+first_by_opening table job row None sound by opening none = no_opening_start table job row sound by none
 
 -- at the first instant an entry's launch is that of the instant
-pub first_may_start : (table : Table) (job : ℕ) (row : JobRow) (first now : ℤ) → IsFirstToStart table job row first → (IsRunByPeriod table job → ⊥) → first ≤ℤ now
-    → MayStart table job row first now
-first_may_start table job row first now is other come =
-    let next = may_start_at table job row is.at first other is.may in
+pub first_may_start : (table : Table) (job : ℕ) (row : JobRow) (first now : ℤ) → IsFirstToStart table job row first → IsSound table → is_by_period table job ≡ false
+    → first ≤ℤ now → MayStart table job row first now
+first_may_start table job row first now is sound not come =
+    let next = may_start_next table job row is.at first sound not is.may in
     let le : first ≤ℤ is.at = is.least is.at is.at (inl (next.0, omega (arith, ints))) in
     let ge : is.at ≤ℤ first = next.1 in
     let same : is.at ≡ first = omega (arith, ints) in
-    inl (subst (IsNextDue table job row.cursor) same next.0, come)
+    inl (subst (IsNextDue table 0 job row.cursor) same next.0, come)
 
 -- the launch that may be started at an instant is one
 pub MayStart-same : (table : Table) (job : ℕ) (row : JobRow) (a b now : ℤ) → MayStart table job row a now → MayStart table job row b now → a ≡ b
-MayStart-same table job row a b now (inl p) (inl q) = IsNextDue-same table job row.cursor a b p.0 q.0
-MayStart-same table job row a b now (inr p) (inr q) = opens_on_one_date table job row.last row.cursor now a b p q
+MayStart-same table job row a b now (inl p) (inl q) = IsNextDue-same table 0 job row.cursor a b p.0 q.0
+MayStart-same table job row a b now (inr p) (inr q) = opens_on_one_date table 0 job row.last row.cursor now a b p q
 MayStart-same table job row a b now (inl p) (inr q) =
     absurd (due_by_instant table job a p.0.due (opens_by_period table job row.last row.cursor now b q))
 MayStart-same table job row a b now (inr p) (inl q) =
@@ -295,7 +331,7 @@ start_applies table rows after job at now here d new takes here_is new_is after_
 
 -- a launch whose instant hasn't come may not be called
 pub no_call : (table : Table) (rows : List JobRow) (job : ℕ) (at now : ℤ) (d : JobRow) (result : Bool) → job < length rows → (get_or rows job d).cursor ≡ Some at
-    → ((j : Job) (zone : TimeZone) → IsJobIn table job j zone → (IsTrue result ↔ HasCome j.kind zone at now)) → result ≡ false
+    → ((j : Job) (zone : TimeZone) → IsJobIn table 0 job j zone → (IsTrue result ↔ HasCome j.kind zone at now)) → result ≡ false
     → (other : ℤ) → MayCall table rows job other now → ⊥
 no_call table rows job at now d result lt cursor tells not other may =
     let at_d : get_or rows job d ≡ may.row = get_or_from_slice_get rows job may.row d may.is_row in
@@ -306,8 +342,8 @@ no_call table rows job at now d result lt cursor tells not other may =
 
 -- a launch that is open and whose instant has come may be called
 pub one_call : (table : Table) (rows : List JobRow) (job : ℕ) (at since now : ℤ) (d : JobRow) (result : Bool) → job < length rows
-    → (get_or rows job d).open_now ≡ Some since → (get_or rows job d).cursor ≡ Some at → IsJobRead table job
-    → ((j : Job) (zone : TimeZone) → IsJobIn table job j zone → (IsTrue result ↔ HasCome j.kind zone at now)) → result ≡ true
+    → (get_or rows job d).open_now ≡ Some since → (get_or rows job d).cursor ≡ Some at → IsJobRead table 0 job
+    → ((j : Job) (zone : TimeZone) → IsJobIn table 0 job j zone → (IsTrue result ↔ HasCome j.kind zone at now)) → result ≡ true
     → MayCall table rows job at now
 one_call table rows job at since now d result lt opened cursor read tells holds = record {
   row = get_or rows job d;

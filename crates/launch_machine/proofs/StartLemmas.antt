@@ -21,7 +21,7 @@ use Rattle.std.proofs.lemmas.Bool.{cases_eq}
 -- each instant is the next due one after the one before it
 abbrev pub IsChain : Table → ℕ → Option ℤ → List ℤ → Type 0
 IsChain table job cursor [] = Unit {0}
-IsChain table job cursor (at ∷ later) = IsNextDue table job cursor at × IsChain table job (Some at) later
+IsChain table job cursor (at ∷ later) = IsNextDue table 0 job cursor at × IsChain table job (Some at) later
 
 -- each instant, or date, is later than the one before it, and may be started
 abbrev pub IsStartChain : Table → ℕ → Option ℤ → List ℤ → Type 0
@@ -39,15 +39,15 @@ chain_of_dues : (table : Table) (job : ℕ) (cursor : Option ℤ) (instants : Li
     → IsChain table job cursor instants
 chain_of_dues table job cursor [] other chain = tt
 chain_of_dues table job cursor (at ∷ later) other ((row, now, cursor_is, inl next), chain) =
-    (subst (λ (c : Option ℤ). IsNextDue table job c at) cursor_is next.0, chain_of_dues table job (Some at) later other chain)
+    (subst (λ (c : Option ℤ). IsNextDue table 0 job c at) cursor_is next.0, chain_of_dues table job (Some at) later other chain)
 chain_of_dues table job cursor (at ∷ later) other ((row, now, cursor_is, inr opens), chain) =
     absurd (other (opens.job, opens.is_in.is_job, subst IsAnacron (sym opens.kind) tt))
 
 -- the first due instants after an instant, in order
 record IsRestFront (table : Table) (job : ℕ) (cursor : Option ℤ) (instants : List ℤ) : Type 0 where
   pub rising : IsRising instants
-  pub sound : (t : ℤ) → Contains instants t → IsJobDue table job t × IsAfter cursor t
-  pub complete : (t last : ℤ) → Contains instants last → IsJobDue table job t → IsAfter cursor t → t ≤ℤ last → Contains instants t
+  pub sound : (t : ℤ) → Contains instants t → IsJobDue table 0 job t × IsAfter cursor t
+  pub complete : (t last : ℤ) → Contains instants last → IsJobDue table 0 job t → IsAfter cursor t → t ≤ℤ last → Contains instants t
 
 after_later : (cursor : Option ℤ) (at t : ℤ) → IsAfter cursor at → at <ℤ t → IsAfter cursor t
 after_later None at t after lt = tt
@@ -59,12 +59,12 @@ before_each at (first ∷ instants) known =
     (known first (Contains-head first instants), before_each at instants (λ t h. known t (Contains-tail first instants t h)))
 
 -- the next due instant goes before the first due ones after it
-front_next : (table : Table) (job : ℕ) (cursor : Option ℤ) (at : ℤ) (later : List ℤ) → IsNextDue table job cursor at → IsRestFront table job (Some at) later
+front_next : (table : Table) (job : ℕ) (cursor : Option ℤ) (at : ℤ) (later : List ℤ) → IsNextDue table 0 job cursor at → IsRestFront table job (Some at) later
     → IsRestFront table job cursor (at ∷ later)
 front_next table job cursor at later next rest = record {
   rising = (before_each at later (λ t h. (rest.sound t h).1), rest.rising);
   sound = λ t h. elim (Contains-cases at later t h) [
-    | inl e ↦ subst (λ (u : ℤ). IsJobDue table job u × IsAfter cursor u) e (next.due, next.later)
+    | inl e ↦ subst (λ (u : ℤ). IsJobDue table 0 job u × IsAfter cursor u) e (next.due, next.later)
     | inr behind ↦ let known = rest.sound t behind in (known.0, after_later cursor at t next.later known.1)
   ];
   complete = λ t last h due after le. by_lt_z at t
@@ -204,7 +204,7 @@ starts_rise table entries job instants starts = (chain_rises table job None inst
 
 -- and the first of its due instants
 pub starts_front : (table : Table) (entries : List Entry) (job : ℕ) (instants : List ℤ) → (IsRunByPeriod table job → ⊥) → StartsOf table entries job instants
-    → IsDueFront table job instants
+    → IsDueFront table 0 job instants
 starts_front table entries job instants other starts =
     let front = chain_front table job None instants (chain_of_dues table job None instants other (all_starts table entries job instants starts)) in
     record {
@@ -215,9 +215,9 @@ starts_front table entries job instants other starts =
 
 -- and so a beginning of the list of all of them
 pub starts_prefix : (table : Table) (entries : List Entry) (job : ℕ) (instants dues : List ℤ) → (IsRunByPeriod table job → ⊥) → StartsOf table entries job instants
-    → IsJobDueList table job dues → (rest : List ℤ) × (dues ≡ instants ++ rest)
+    → IsJobDueList table 0 job dues → (rest : List ℤ) × (dues ≡ instants ++ rest)
 starts_prefix table entries job instants dues other starts list =
-    front_prefix table job instants dues (starts_front table entries job instants other starts) list
+    front_prefix table 0 job instants dues (starts_front table entries job instants other starts) list
 
 pub cursor_rises : (table : Table) (rows : List JobRow) (job : ℕ) (at now : ℤ) (old new : JobRow) → TakesStart table rows job at now
     → slice_get rows job ≡ Some old → slice_get (with_row (opened_row at now) rows job) job ≡ Some new → (new.cursor ≡ Some at) × IsAfter old.cursor at

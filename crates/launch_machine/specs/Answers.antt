@@ -25,7 +25,7 @@ IsEffect table rows any effect = ⊥
 -- a launch that is called on time is launched, and any other is void
 abbrev pub IsCallKind : Table → ℕ → ℤ → ℤ → Kind → Type 0
 IsCallKind table job at now kind =
-    (spec : Job) (zone : TimeZone) → IsJobIn table job spec zone → ((kind ≡ Launch) ↔ IsOnTime spec.kind zone table.grace at now)
+    (spec : Job) (zone : TimeZone) → IsJobIn table 0 job spec zone → ((kind ≡ Launch) ↔ IsOnTime spec.kind zone table.grace at now)
 
 -- the first call, or else the first start, or else nothing
 abbrev pub IsIntent : Table → List JobRow → ℤ → Intent → Type 0

@@ -10,9 +10,9 @@ use Rattle.paxos_base.specs.Rows.{fresh_row, fresh_rows, row_count}
 use Rattle.due_set.specs.Anacron.{IsJobOpen}
 use Rattle.due_set.specs.Table.{Table, IsNextDue}
 
--- how many jobs the table has, of which there is one version
+-- how many jobs the table has, and its last version
 abbrev pub table_size : Table → TableSize
-table_size table = record { jobs = length table.jobs; last_version = 0 }
+table_size table = record { jobs = length table.jobs; last_version = length table.later }
 
 -- the launch table at first: a fresh row for each job, and the table's own
 abbrev pub first_rows : Table → List JobRow
@@ -20,7 +20,7 @@ first_rows table = fresh_rows (row_count (table_size table))
 
 -- the launch is the job's next due instant, and has come; of a job that runs by its period, it is a date on which it may open now
 abbrev pub MayStart : Table → ℕ → JobRow → ℤ → ℤ → Type 0
-MayStart table job row at now = (IsNextDue table job row.cursor at × (at ≤ℤ now)) ⊎ IsJobOpen table job row.last row.cursor now at
+MayStart table job row at now = (IsNextDue table 0 job row.cursor at × (at ≤ℤ now)) ⊎ IsJobOpen table 0 job row.last row.cursor now at
 
 -- a start takes effect: its job is in the table and idle, and its launch may be started
 pub record TakesStart (table : Table) (rows : List JobRow) (job : ℕ) (at now : ℤ) : Type 0 where

@@ -15,7 +15,7 @@ pub record MayCall (table : Table) (rows : List JobRow) (job : ℕ) (at now : �
   pub cursor : row.cursor ≡ Some at
   pub spec : Job
   pub zone : TimeZone
-  pub is_in : IsJobIn table job spec zone
+  pub is_in : IsJobIn table 0 job spec zone
   pub come : HasCome spec.kind zone at now
 
 -- no launch may be called

@@ -47,7 +47,7 @@ AreNextStarts table rows starts = AreBeside (IsStartBeside table) rows starts
 abbrev pub IsCallBeside : Table → ℕ → JobRow → Option ℤ → Type 0
 IsCallBeside table job row call =
     (at now since : ℤ) (spec : Job) (zone : TimeZone) → IsInWindow table.window now → row.open_now ≡ Some since → row.cursor ≡ Some at
-    → IsJobIn table job spec zone → HasCome spec.kind zone at now → IsAtMost now call
+    → IsJobIn table 0 job spec zone → HasCome spec.kind zone at now → IsAtMost now call
 
 -- beside each row stands an instant before which its launch isn't called
 abbrev pub AreCalls : Table → List JobRow → List (Option ℤ) → Type 0

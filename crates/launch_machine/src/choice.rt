@@ -24,7 +24,7 @@ fn call_at(rows: &[JobRow], table: &JobTable, job: u32, now: Minute) -> Option<i
     let row = rows[job as usize];
     row.open_now?;
     let at = row.cursor?;
-    if table.may_call(job, at, now) {
+    if table.may_call(0, job, at, now) {
         Some(at)
     } else {
         None
@@ -91,7 +91,7 @@ pub fn call_kind(table: &JobTable, job: u32, at: i64, now: Minute) -> Kind
     requires inside { IsInWindow table.now.window now.0 }
     ensures { IsCallKind table.now job at now.0 result }
 {
-    match table.call_kind(job, at, now) {
+    match table.call_kind(0, job, at, now) {
         Kind2::OnTime => Kind::Launch,
         Kind2::Late => Kind::Void,
     }

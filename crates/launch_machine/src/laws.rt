@@ -65,9 +65,9 @@ pub fn starts_come_in_order()
     ensures rise { (table : Table) (entries : List Entry) (job : ℕ) (instants : List ℤ)
         → StartsOf table entries job instants → IsRising instants }
     ensures front { (table : Table) (entries : List Entry) (job : ℕ) (instants : List ℤ)
-        → (IsRunByPeriod table job → ⊥) → StartsOf table entries job instants → IsDueFront table job instants }
+        → (IsRunByPeriod table job → ⊥) → StartsOf table entries job instants → IsDueFront table 0 job instants }
     ensures prefix { (table : Table) (entries : List Entry) (job : ℕ) (instants dues : List ℤ)
-        → (IsRunByPeriod table job → ⊥) → StartsOf table entries job instants → IsJobDueList table job dues
+        → (IsRunByPeriod table job → ⊥) → StartsOf table entries job instants → IsJobDueList table 0 job dues
         → (rest : List ℤ) × (dues ≡ instants ++ rest) }
 {}
 

@@ -28,10 +28,10 @@ fn first_start_of(table: &JobTable, job: u32, row: JobRow) -> Option<i64>
 // The first instant at which the job may open, by these dates.
 fn first_opening(table: &JobTable, job: u32, last: Option<i64>, cursor: Option<i64>) -> Option<i64>
     requires { job < length table.now.jobs }
-    ensures found { IfSome result (IsFirstOpening table.now job last cursor) }
-    ensures none { IfNone result ((now date : ℤ) → IsJobOpen table.now job last cursor now date → ⊥) }
+    ensures found { IfSome result (IsFirstOpening table.now 0 job last cursor) }
+    ensures none { IfNone result ((now date : ℤ) → IsJobOpen table.now 0 job last cursor now date → ⊥) }
 {
-    match table.first_opening(job, last, cursor) {
+    match table.first_opening(0, job, last, cursor) {
         Some(first) => Some(first.0),
         None => None,
     }
@@ -40,10 +40,10 @@ fn first_opening(table: &JobTable, job: u32, last: Option<i64>, cursor: Option<i
 // The job's next due instant after another, or the first of all.
 fn next_due(table: &JobTable, job: u32, after: Option<i64>) -> Option<i64>
     requires { job < length table.now.jobs }
-    ensures found { IfSome result (IsNextDue table.now job after) }
-    ensures none { IfNone result ((at : ℤ) → IsJobDue table.now job at → IsAfter after at → ⊥) }
+    ensures found { IfSome result (IsNextDue table.now 0 job after) }
+    ensures none { IfNone result ((at : ℤ) → IsJobDue table.now 0 job at → IsAfter after at → ⊥) }
 {
-    match table.next_due(job, after.map(Minute)) {
+    match table.next_due(0, job, after.map(Minute)) {
         Some(next) => Some(next.0),
         None => None,
     }
@@ -163,12 +163,12 @@ fn launch_at(table: &JobTable, job: u32, row: JobRow, first: i64, now: i64) -> O
 // The date on which the row's job may open now, if it runs by its period.
 fn date_at(table: &JobTable, job: u32, row: JobRow, now: i64) -> Option<i64>
     requires { job < length table.now.jobs }
-    ensures found { IfSome result (IsJobOpen table.now job row.last row.cursor now) }
-    ensures none { IfNone result ((date : ℤ) → IsJobOpen table.now job row.last row.cursor now date → ⊥) }
+    ensures found { IfSome result (IsJobOpen table.now 0 job row.last row.cursor now) }
+    ensures none { IfNone result ((date : ℤ) → IsJobOpen table.now 0 job row.last row.cursor now date → ⊥) }
 {
     let now = Minute(now);
     if table.window().contains(now) {
-        table.anacron_open(job, row.last, row.cursor, now)
+        table.anacron_open(0, job, row.last, row.cursor, now)
     } else {
         None
     }

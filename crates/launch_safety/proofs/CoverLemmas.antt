@@ -30,9 +30,9 @@ pub record IsOver (table : Table) (log : List Entry) (job : ℕ) (at : ℤ) : Ty
 abbrev pub IsCovered : Table → List Entry → ℕ → Option ℤ → Option ℤ → Type 0
 IsCovered table log job None None = Unit {0}
 IsCovered table log job None (Some since) = ⊥
-IsCovered table log job (Some cursor) None = (t : ℤ) → IsJobDue table job t → t ≤ℤ cursor → IsOver table log job t
+IsCovered table log job (Some cursor) None = (t : ℤ) → IsJobDue table 0 job t → t ≤ℤ cursor → IsOver table log job t
 IsCovered table log job (Some cursor) (Some since) =
-    HasStart table log job cursor × ((t : ℤ) → IsJobDue table job t → t <ℤ cursor → IsOver table log job t)
+    HasStart table log job cursor × ((t : ℤ) → IsJobDue table 0 job t → t <ℤ cursor → IsOver table log job t)
 
 -- the job's row, where there is one, is covered
 abbrev pub HasCover : Table → List Entry → List JobRow → ℕ → Type 0
@@ -63,12 +63,12 @@ cover_left table log more rows middle job e known row is_row =
     IsCovered-more table log more job row.cursor row.open_now (known row (sym e ∙ is_row))
 
 -- a job that may open has no due instants
-pub due_never_opens : (table : Table) (job : ℕ) (last cursor : Option ℤ) (t now date : ℤ) → IsJobDue table job t → IsJobOpen table job last cursor now date → ⊥
+pub due_never_opens : (table : Table) (job : ℕ) (last cursor : Option ℤ) (t now date : ℤ) → IsJobDue table 0 job t → IsJobOpen table 0 job last cursor now date → ⊥
 due_never_opens table job last cursor t now date due opens = due_by_instant table job t due (opens_by_period table job last cursor now date opens)
 
 -- no due instant is between an idle row's cursor and the one that may be started
 over_before : (table : Table) (log : List Entry) (job : ℕ) (row : JobRow) (at now : ℤ) (cursor : Option ℤ) → row.cursor ≡ cursor → MayStart table job row at now
-    → IsCovered table log job cursor None → (t : ℤ) → IsJobDue table job t → t <ℤ at → IsOver table log job t
+    → IsCovered table log job cursor None → (t : ℤ) → IsJobDue table 0 job t → t <ℤ at → IsOver table log job t
 over_before table log job row at now cursor is (inr opens) known t due lt = absurd (due_never_opens table job row.last row.cursor t now at due opens)
 over_before table log job row at now None is (inl (next, come)) known t due lt =
     let le : at ≤ℤ t = next.least t due (subst (λ (c : Option ℤ). IsAfter c t) (sym is) tt) in absurd (omega (arith, ints))

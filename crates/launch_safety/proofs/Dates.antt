@@ -12,7 +12,8 @@ use Rattle.zone_minutes.specs.declared.minute.Window.{Window}
 use Rattle.zone_minutes.proofs.ZoneLemmas.{local_of-fixed}
 use Rattle.due_set.specs.Anacron.{IsJobOpen, IsOverSince, MayOpenOn}
 use Rattle.due_set.specs.Calls.{IsOnTime}
-use Rattle.due_set.specs.Table.{IsAfter, IsBuiltFor, IsJobIn, IsSound, Job, Table, utc_over}
+use Rattle.due_set.proofs.SoundLemmas.{no_later}
+use Rattle.due_set.specs.Table.{IsKindOfName, IsAfter, IsBuiltFor, IsJobIn, IsSound, Job, Table, utc_over}
 use Rattle.due_set.specs.declared.job.JobKind.TheVariants.{Anacron}
 use Rattle.due_set.specs.declared.job.Period.TheVariants.{Days}
 use Rattle.due_set.proofs.MatchingLemmas.{minute_of_day-below}
@@ -41,7 +42,7 @@ use Rattle.history.proofs.Asks.{utc, with_table}
 -- ---- the table: a job that runs each day, in UTC, over a window of two days
 
 abbrev daily_job : Job
-daily_job = record { name = []; zone = 0; kind = Anacron (Days 1) 0 1440 }
+daily_job = record { name = 47 ∷ []; zone = 0; kind = Anacron (Days 1) 0 1440 }
 
 abbrev two_days : Window
 two_days = record { from = record { 0 = pos 525_600 }; until = record { 0 = pos 528_480 } }
@@ -50,7 +51,7 @@ abbrev only_zone : Zone
 only_zone = utc_over two_days
 
 abbrev daily : Table
-daily = record { window = two_days; grace = 0; zones = only_zone ∷ []; jobs = daily_job ∷ [] }
+daily = record { window = two_days; grace = 0; zones = only_zone ∷ []; jobs = daily_job ∷ []; later = [] }
 
 sound : IsSound daily
 sound = record {
@@ -60,13 +61,15 @@ sound = record {
   zone_numbers = All-cons (λ job. job.zone < 1) daily_job [] (lit< tt) (All-nil (λ job. job.zone < 1));
   few = omega arith;
   distinct = λ i j d before within. absurd (omega (arith, before, within));
+  kinds = All-cons (λ job. IsKindOfName job.name job.kind) daily_job [] refl (All-nil (λ job. IsKindOfName job.name job.kind));
+  versions = no_later daily;
 }
 
-job_in : IsJobIn daily 0 daily_job utc.0
+job_in : IsJobIn daily 0 0 daily_job utc.0
 job_in = record { is_job = refl; source = only_zone; is_zone = refl; read = utc.1 }
 
 -- the job of the table is that one, in UTC
-only_one : (spec : Job) (zone : TimeZone) → IsJobIn daily 0 spec zone → (daily_job ≡ spec) × IsReadAs (FixedOffset (pos 0)) zone
+only_one : (spec : Job) (zone : TimeZone) → IsJobIn daily 0 0 spec zone → (daily_job ≡ spec) × IsReadAs (FixedOffset (pos 0)) zone
 only_one spec zone is_in =
     let same : daily_job ≡ spec = first_job daily_job spec is_in.is_job in
     let at : slice_get daily.zones 0 ≡ Some is_in.source = subst (λ (job : Job). slice_get daily.zones job.zone ≡ Some is_in.source) (sym same) is_in.is_zone in
@@ -88,7 +91,7 @@ record IsOn (now date : ℤ) : Type 0 where
 shown_on : (now date : ℤ) (zone : TimeZone) → IsOn now date → IsReadAs (FixedOffset (pos 0)) zone → day_number (local_of zone now) ≡ date
 shown_on now date zone on read = ap day_number (local_of-fixed (pos 0) now zone read) ∙ on.day
 
-opens : (last cursor : Option ℤ) (now date : ℤ) → IsOn now date → IsAfter cursor date → IsOverSince (Days 1) last date → IsJobOpen daily 0 last cursor now date
+opens : (last cursor : Option ℤ) (now date : ℤ) → IsOn now date → IsAfter cursor date → IsOverSince (Days 1) last date → IsJobOpen daily 0 0 last cursor now date
 opens last cursor now date on later over =
     let shown = shown_on now date utc.0 on utc.1 in
     record {

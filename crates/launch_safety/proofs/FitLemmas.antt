@@ -76,7 +76,7 @@ pub held_started : (table : Table) (log : List Entry) (held : List SchedRow) (ro
 held_started table log held row fits among = (backed_row table log held row fits among).start
 
 pub held_called : (table : Table) (log : List Entry) (held : List SchedRow) (row : SchedRow) → Fits table log held → Contains held row
-    → (job : Job) × (zone : TimeZone) × IsJobIn table row.name.job job zone × HasCome job.kind zone row.name.at row.now.0
+    → (job : Job) × (zone : TimeZone) × IsJobIn table 0 row.name.job job zone × HasCome job.kind zone row.name.at row.now.0
     × ((row.kind ≡ Launch) ↔ IsOnTime job.kind zone table.grace row.name.at row.now.0)
 held_called table log held row fits among =
     let known = backed_row table log held row fits among in
@@ -108,7 +108,7 @@ starts_of_fits table log held job fits =
     let known = fits.in_order job in (known.instants, known.starts, known.rising)
 
 pub front_of_fits : (table : Table) (log : List Entry) (held : List SchedRow) (job : ℕ) → Fits table log held → (IsRunByPeriod table job → ⊥)
-    → (instants : List ℤ) × StartsOf table log job instants × IsDueFront table job instants
+    → (instants : List ℤ) × StartsOf table log job instants × IsDueFront table 0 job instants
 front_of_fits table log held job fits other =
     let known = fits.in_order job in (known.instants, known.starts, known.first other)
 
@@ -119,7 +119,7 @@ apart_of_fits table log held a b job period first last fits in_a in_b size a_lau
     fits.apart a b in_a in_b size a_launch b_launch lt job period first last is_job kind
 
 -- where each due instant is launched, one row is held for each, a launch
-pub launched_each : (table : Table) (held : List SchedRow) (job : ℕ) (at : ℤ) → LaunchesEachDue table held → IsJobDue table job at
+pub launched_each : (table : Table) (held : List SchedRow) (job : ℕ) (at : ℤ) → LaunchesEachDue table held → IsJobDue table 0 job at
     → (row : SchedRow) × Contains held row × (row.name.job ≡ job) × (row.name.at ≡ at) × (row.kind ≡ Launch)
 launched_each table held job at launched due =
     let found = launched.each job at due in (found.row, found.among, found.of_job, found.due_at, found.of_kind)
@@ -136,7 +136,7 @@ launched_wanted table held row launched among =
 
 -- and a job that doesn't run by its period is due then
 pub launched_due : (table : Table) (held : List SchedRow) (row : SchedRow) → LaunchesEachDue table held → Contains held row → (IsRunByPeriod table row.name.job → ⊥)
-    → IsJobDue table row.name.job row.name.at
+    → IsJobDue table 0 row.name.job row.name.at
 launched_due table held row launched among other = elim (launched_wanted table held row launched among).0 [
   | inl due ↦ due
   | inr by ↦ absurd (other (opens_by_period table row.name.job by.last by.last row.now.0 row.name.at by.opens))

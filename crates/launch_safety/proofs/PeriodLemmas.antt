@@ -280,9 +280,9 @@ started_once table log job at a b first second =
 -- ---- a period apart
 
 -- a date on which a job may open is a period after each launch that isn't after the last
-opens_apart : (table : Table) (job : ℕ) (last cursor : Option ℤ) (now at date : ℤ) → IsJobOpen table job last cursor now date → IsLaunchedBy last at → IsPeriodApart table job at date
+opens_apart : (table : Table) (job : ℕ) (last cursor : Option ℤ) (now at date : ℤ) → IsJobOpen table 0 job last cursor now date → IsLaunchedBy last at → IsPeriodApart table job at date
 opens_apart table job last cursor now at date opens launched spec period first_minute last_minute is_job kind =
-    let size : opens.job ≡ spec = same_job table job opens.job spec opens.is_in.is_job is_job in
+    let size : opens.job ≡ spec = same_job table 0 job opens.job spec opens.is_in.is_job is_job in
     let kinds : Anacron opens.period opens.first_minute opens.last_minute ≡ Anacron period first_minute last_minute =
     sym opens.kind ∙ ap (λ (j : Job). j.kind) size ∙ kind in
     let periods : opens.period ≡ period = cc in
@@ -294,7 +294,7 @@ opens_apart table job last cursor now at date opens launched spec period first_m
 pub start_apart : (table : Table) (before : List Entry) (job : ℕ) (at date now : ℤ) → TakesEffectAfter table before (Start job date now)
     → HasEnd table before job at Launch → IsPeriodApart table job at date
 start_apart table before job at date now (rows, clerk, takes) ended spec period first_minute last_minute is_job kind =
-    let opens : IsJobOpen table job takes.row.last takes.row.cursor now date = may_start_on table job takes.row date now (spec, is_job, subst IsAnacron (sym kind) tt) takes.may in
+    let opens : IsJobOpen table 0 job takes.row.last takes.row.cursor now date = may_start_on table job takes.row date now (spec, is_job, subst IsAnacron (sym kind) tt) takes.may in
     opens_apart table job takes.row.last takes.row.cursor now at date opens ((clerk_dates table before rows job clerk takes.row takes.is_row).launched at ended) spec period
     first_minute last_minute is_job kind
 

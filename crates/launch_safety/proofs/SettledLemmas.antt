@@ -26,11 +26,11 @@ row_of table log rows job clerk lt =
     at_place rows job (omega (arith, count, lt))
 
 module _ (table : Table) (log : List Entry) (now : ℤ) (job : ℕ) (at : ℤ) (settled : IsSettled table log now)
-    (due : IsJobDue table job at) (come : at ≤ℤ now) where
+    (due : IsJobDue table 0 job at) (come : at ≤ℤ now) where
   -- no due instant that has come is after an idle row's cursor
   none_missed : (row : JobRow) → slice_get settled.rows job ≡ Some row → row.open_now ≡ None → IsAfter row.cursor at → ⊥
   none_missed row is_row idle after =
-      let found = next_up_to table job row.cursor at due after in
+      let found = next_up_to table 0 job row.cursor at due after in
       let le : found.0 ≤ℤ at = found.2 in
       settled.no_start job found.0 (record {
         row = row;

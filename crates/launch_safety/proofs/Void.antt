@@ -33,7 +33,7 @@ abbrev IsCrontab : Option Job → Type 0
 IsCrontab None = Unit {0}
 IsCrontab (Some job) = (fields : Fields) × (job.kind ≡ Crontab fields)
 
-by_fields : (spec : Job) (zone : TimeZone) → IsJobIn busy 0 spec zone → (fields : Fields) × (spec.kind ≡ Crontab fields)
+by_fields : (spec : Job) (zone : TimeZone) → IsJobIn busy 0 0 spec zone → (fields : Fields) × (spec.kind ≡ Crontab fields)
 by_fields spec zone is_in = subst IsCrontab is_in.is_job (_, refl)
 
 -- a minute later the launch is no longer on time

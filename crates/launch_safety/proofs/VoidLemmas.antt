@@ -58,7 +58,7 @@ void_ended table job at started called by j t kind known =
     ]
 
 module _ (table : Table) (job : ℕ) (at started called : ℤ) (by : ℕ) (spec : Job) (zone : TimeZone) (sound : IsSound table)
-    (may : MayStart table job (fresh_row job) at started) (is_in : IsJobIn table job spec zone) (called_then : HasCome spec.kind zone at called)
+    (may : MayStart table job (fresh_row job) at started) (is_in : IsJobIn table 0 job spec zone) (called_then : HasCome spec.kind zone at called)
     (is_void : IsCallKind table job at called Void) where
   takes : TakesStart table (first_rows table) job at started
   takes = record {
@@ -101,14 +101,14 @@ module _ (table : Table) (job : ℕ) (at started called : ℤ) (by : ℕ) (spec 
         (λ j t kind known. void_ended table job at started called by j t kind known);
   }
 
-pub void_fits : (table : Table) (job : ℕ) (at started called : ℤ) (by : ℕ) (spec : Job) (zone : TimeZone) → IsSound table → IsNextDue table job None at
-    → at ≤ℤ started → IsJobIn table job spec zone → HasCome spec.kind zone at called → IsCallKind table job at called Void
+pub void_fits : (table : Table) (job : ℕ) (at started called : ℤ) (by : ℕ) (spec : Job) (zone : TimeZone) → IsSound table → IsNextDue table 0 job None at
+    → at ≤ℤ started → IsJobIn table 0 job spec zone → HasCome spec.kind zone at called → IsCallKind table job at called Void
     → Fits table (void_log job at started) (void_row job at called by ∷ [])
 void_fits table job at started called by spec zone sound next come is_in called_then is_void =
     started_void_fits table job at started called by spec zone sound (inl (next, come)) is_in called_then is_void
 
 pub void_of_date_fits : (table : Table) (job : ℕ) (date started called : ℤ) (by : ℕ) (spec : Job) (zone : TimeZone) → IsSound table
-    → IsJobOpen table job None None started date → IsJobIn table job spec zone → HasCome spec.kind zone date called → IsCallKind table job date called Void
+    → IsJobOpen table 0 job None None started date → IsJobIn table 0 job spec zone → HasCome spec.kind zone date called → IsCallKind table job date called Void
     → Fits table (void_log job date started) (void_row job date called by ∷ [])
 void_of_date_fits table job date started called by spec zone sound opens is_in called_then is_void =
     started_void_fits table job date started called by spec zone sound (inr opens) is_in called_then is_void

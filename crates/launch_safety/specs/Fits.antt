@@ -49,7 +49,7 @@ pub record IsBacked (table : Table) (log : List Entry) (row : SchedRow) : Type 0
   pub start : HasStart table log row.name.job row.name.at
   pub spec : Job
   pub zone : TimeZone
-  pub is_in : IsJobIn table row.name.job spec zone
+  pub is_in : IsJobIn table 0 row.name.job spec zone
   pub come : HasCome spec.kind zone row.name.at row.now.0
   pub kind : IsCallKind table row.name.job row.name.at row.now.0 row.kind
 
@@ -67,7 +67,7 @@ pub record StartsInOrder (table : Table) (log : List Entry) (job : ℕ) : Type 0
   pub instants : List ℤ
   pub starts : StartsOf table log job instants
   pub rising : IsRising instants
-  pub first : (IsRunByPeriod table job → ⊥) → IsDueFront table job instants
+  pub first : (IsRunByPeriod table job → ⊥) → IsDueFront table 0 job instants
 
 -- where the job runs by its period, that is over on the later date since the earlier one
 abbrev pub IsPeriodApart : Table → ℕ → (earlier later : ℤ) → Type 0

@@ -33,15 +33,15 @@ IsLatest held job now (Some date) = IsLastBefore held job now date
 pub record OpensBy (table : Table) (held : List SchedRow) (job : ℕ) (now date : ℤ) : Type 0 where
   pub last : Option ℤ
   pub latest : IsLatest held job now last
-  pub opens : IsJobOpen table job last last now date
+  pub opens : IsJobOpen table 0 job last last now date
 
 -- the row is of a due instant, or of a date on which its job might open when it was called
 abbrev pub IsWanted : Table → List SchedRow → SchedRow → Type 0
-IsWanted table held row = IsJobDue table row.name.job row.name.at ⊎ OpensBy table held row.name.job row.now.0 row.name.at
+IsWanted table held row = IsJobDue table 0 row.name.job row.name.at ⊎ OpensBy table held row.name.job row.now.0 row.name.at
 
 -- Each due instant of each job is launched; so is each date on which a job may open at some instant, by the launches that were
 -- called before, and it's called at that instant; and nothing else is held.
 pub record LaunchesEachDue (table : Table) (held : List SchedRow) : Type 0 where
-  pub each : (job : ℕ) (at : ℤ) → IsJobDue table job at → IsHeld held job at Launch
+  pub each : (job : ℕ) (at : ℤ) → IsJobDue table 0 job at → IsHeld held job at Launch
   pub each_date : (job : ℕ) (now date : ℤ) → OpensBy table held job now date → IsCalledAt held job date Launch now
   pub no_other : All (λ row. IsWanted table held row × (row.kind ≡ Launch)) held

@@ -40,7 +40,7 @@ pub fn a_start_stands_before_its_end()
 /// Each due instant up to the one at which a log is settled was started and ended.
 pub fn a_settled_log_has_each_due_instant()
     ensures { (table : Table) (log : List Entry) (now : ℤ) (job : ℕ) (at : ℤ)
-        → IsSettled table log now → IsJobDue table job at → at ≤ℤ now
+        → IsSettled table log now → IsJobDue table 0 job at → at ≤ℤ now
         → HasStart table log job at × (kind : Kind) × HasEnd table log job at kind }
 {}
 
@@ -61,7 +61,7 @@ pub fn a_held_launch_was_started()
 pub fn a_held_launch_had_come()
     ensures { (table : Table) (log : List Entry) (held : List SchedRow) (row : SchedRow)
         → Fits table log held → Contains held row
-        → (job : Job) × (zone : TimeZone) × IsJobIn table row.name.job job zone
+        → (job : Job) × (zone : TimeZone) × IsJobIn table 0 row.name.job job zone
         × HasCome job.kind zone row.name.at row.now.0
         × ((row.kind ≡ Kind.Launch) ↔ IsOnTime job.kind zone table.grace row.name.at row.now.0) }
 {}
@@ -84,7 +84,7 @@ pub fn no_due_instant_is_passed_over()
         → Fits table log held → (instants : List ℤ) × StartsOf table log job instants × IsRising instants }
     ensures front { (table : Table) (log : List Entry) (held : List SchedRow) (job : ℕ)
         → Fits table log held → (IsRunByPeriod table job → ⊥)
-        → (instants : List ℤ) × StartsOf table log job instants × IsDueFront table job instants }
+        → (instants : List ℤ) × StartsOf table log job instants × IsDueFront table 0 job instants }
 {}
 
 /// Where they fit, of two launches of a job that runs by its period the later is a period after the earlier.
@@ -138,7 +138,7 @@ pub fn a_job_opens_a_period_after_each_launch()
 /// a launch of one of these; of a job that doesn't run by its period, a due instant's.
 pub fn each_due_instant_is_launched()
     ensures each { (table : Table) (held : List SchedRow) (job : ℕ) (at : ℤ)
-        → LaunchesEachDue table held → IsJobDue table job at
+        → LaunchesEachDue table held → IsJobDue table 0 job at
         → (row : SchedRow) × Contains held row
         × (row.name.job ≡ job) × (row.name.at ≡ at) × (row.kind ≡ Kind.Launch) }
     ensures each_date { (table : Table) (held : List SchedRow) (job : ℕ) (now date : ℤ)
@@ -150,13 +150,13 @@ pub fn each_due_instant_is_launched()
         → IsWanted table held row × (row.kind ≡ Kind.Launch) }
     ensures due { (table : Table) (held : List SchedRow) (row : SchedRow)
         → LaunchesEachDue table held → Contains held row → (IsRunByPeriod table row.name.job → ⊥)
-        → IsJobDue table row.name.job row.name.at }
+        → IsJobDue table 0 row.name.job row.name.at }
 {}
 
 /// A launch that is called so late that it is a void is held as one and ends as one: its log and its row fit.
 pub fn a_void_fits_its_log()
     ensures { (table : Table) (job : ℕ) (at started called : ℤ) (by : ℕ) (spec : Job) (zone : TimeZone) → IsSound table
-        → IsNextDue table job None at → at ≤ℤ started → IsJobIn table job spec zone
+        → IsNextDue table 0 job None at → at ≤ℤ started → IsJobIn table 0 job spec zone
         → HasCome spec.kind zone at called → IsCallKind table job at called Kind.Void
         → Fits table (Entry.Start job at started ∷ Entry.End job at Kind.Void ∷ [])
         (record { name = record { job = job; at = at }; kind = Kind.Void; now = record { 0 = called }; by = by } ∷ []) }
@@ -165,7 +165,7 @@ pub fn a_void_fits_its_log()
 /// A launch of a date that is called on a later date is held as a void and ends as one: its log and its row fit.
 pub fn a_void_of_a_date_fits_its_log()
     ensures { (table : Table) (job : ℕ) (date started called : ℤ) (by : ℕ) (spec : Job) (zone : TimeZone) → IsSound table
-        → IsJobOpen table job None None started date → IsJobIn table job spec zone
+        → IsJobOpen table 0 job None None started date → IsJobIn table 0 job spec zone
         → HasCome spec.kind zone date called → IsCallKind table job date called Kind.Void
         → Fits table (Entry.Start job date started ∷ Entry.End job date Kind.Void ∷ [])
         (record { name = record { job = job; at = date }; kind = Kind.Void; now = record { 0 = called }; by = by } ∷ []) }

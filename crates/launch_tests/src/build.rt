@@ -1,5 +1,6 @@
 //! Jobs and tables.
-ghost use Rattle.std.specs.Prelude.{◌≡◌, ◌≤◌, IfOk, IfSome};
+ghost use Rattle.std.specs.Prelude.{◌≡◌, ◌≤◌, IfOk, IfSome, length};
+ghost use Rattle.due_set.specs.Table.{IsKindOfName};
 ghost use Rattle.zone_minutes.specs.Window.{IsInWindow, IsWithinLimits};
 
 use cron_fields::{FieldKind, FieldSet, Fields, HashSeed, read_field};
@@ -50,7 +51,8 @@ fn field_of(kind: FieldKind, text: &str) -> Option<FieldSet> {
     }
 }
 
-fn fields_of(minutes: &str) -> Option<Fields> {
+/// The fields of an entry that runs at these minutes of each hour.
+pub fn fields_of(minutes: &str) -> Option<Fields> {
     Some(Fields {
         minute: field_of(FieldKind::Minute, minutes)?,
         hour: field_of(FieldKind::Hour, "*")?,
@@ -60,8 +62,8 @@ fn fields_of(minutes: &str) -> Option<Fields> {
     })
 }
 
-/// When such a job runs.
-pub fn kind_of_job(when: When) -> Result<JobKind, Fail> {
+// When such a job runs.
+fn kind_of_job(when: When) -> Result<JobKind, Fail> {
     match when {
         When::Never => Ok(JobKind::Never),
         When::At(minutes) => {
@@ -76,6 +78,28 @@ pub fn kind_of_job(when: When) -> Result<JobKind, Fail> {
     }
 }
 
+// Alice's name of a job that runs so: it has a `/` where that is by a period.
+fn alices(kind: JobKind) -> &'static str
+    ensures says { IsKindOfName result.now kind }
+    ensures length { length result.now ≡ 7 }
+{
+    match kind {
+        JobKind::Anacron { .. } => "alice/1",
+        JobKind::Crontab { .. } | JobKind::Never => "alice:1",
+    }
+}
+
+// Bob's.
+fn bobs(kind: JobKind) -> &'static str
+    ensures says { IsKindOfName result.now kind }
+    ensures length { length result.now ≡ 10 }
+{
+    match kind {
+        JobKind::Anacron { .. } => "bob@home/2",
+        JobKind::Crontab { .. } | JobKind::Never => "bob@home:2",
+    }
+}
+
 /// A table of two jobs that run by UTC, with so many minutes of grace.
 pub fn two_jobs(
     alloc: Global,
@@ -87,9 +111,11 @@ pub fn two_jobs(
     requires limits { IsWithinLimits window }
     requires grace { grace ≤ 525_600 }
 {
+    let one = kind_of_job(first)?;
+    let other = kind_of_job(second)?;
     let mut jobs = Vec::new(alloc);
-    jobs.push(JobSpec::new(alloc, "alice:1", 0, kind_of_job(first)?)?)?;
-    jobs.push(JobSpec::new(alloc, "bob@home:2", 0, kind_of_job(second)?)?)?;
+    jobs.push(JobSpec::new(alloc, alices(one), 0, one)?)?;
+    jobs.push(JobSpec::new(alloc, bobs(other), 0, other)?)?;
     Ok(JobTable::in_utc(alloc, window, grace, jobs)?)
 }
 

@@ -1,9 +1,9 @@
 //! The largest table: 1,000 jobs.
 ghost use Rattle.std.specs.Prelude.{◌≡◌, ◌≤◌, length, map, All, IfOk, IsTrue};
-ghost use Rattle.due_set.specs.Table.{job_of, AreNamesDistinct, AreZonesBelow};
+ghost use Rattle.due_set.specs.Table.{job_of, AreKindsOfNames, AreNamesDistinct, AreZonesBelow};
 
-use crate::build::{FROM, When, kind_of_job};
-use due_set::{JobSpec, JobTable};
+use crate::build::{FROM, fields_of};
+use due_set::{JobKind, JobSpec, JobTable};
 use launch_machine::Machine;
 use std::alloc::Global;
 use std::test::Fail;
@@ -19,8 +19,10 @@ fn thousand_jobs(alloc: Global) -> Result<Vec<JobSpec>, Fail>
     ensures zones { IfOk result (λ jobs. AreZonesBelow 1 (map job_of jobs.items)) }
     ensures few { IfOk result (λ jobs. length jobs.items ≤ 1000) }
     ensures distinct { IfOk result (λ jobs. AreNamesDistinct (map job_of jobs.items)) }
+    ensures kinds { IfOk result (λ jobs. AreKindsOfNames (map job_of jobs.items)) }
 {
-    let kind = kind_of_job(When::At("30"))?;
+    let fields = fields_of("30").ok_or("no fields")?;
+    let kind = JobKind::Crontab { fields };
     let mut jobs = Vec::new(alloc);
     let mut name = String::new(alloc);
     for place in 0..1000u32 {

@@ -54,9 +54,9 @@ window 2024-03-31T00:00Z 2024-03-31T01:00Z
 replicas 1
 jobs 2
 job alice:1 launched 0 void 0
-job backup launched 1 void 1
-void backup@2024-03-30
-launch backup@2024-03-31
+job x/backup launched 1 void 1
+void x/backup@2024-03-30
+launch x/backup@2024-03-31
 end
 ";
 
@@ -166,7 +166,7 @@ fn table_of(alloc: Global, report: &Report) -> Result<JobTable, Fail> {
         jobs.push(JobSpec::new(alloc, "alice:1", 0, JobKind::Never)?)?;
     }
     if report.jobs > 1 && report.dated {
-        jobs.push(JobSpec::new(alloc, "backup", 0, BACKUP)?)?;
+        jobs.push(JobSpec::new(alloc, "x/backup", 0, BACKUP)?)?;
     } else if report.jobs > 1 {
         jobs.push(JobSpec::new(alloc, "bob:2", 0, JobKind::Never)?)?;
     }

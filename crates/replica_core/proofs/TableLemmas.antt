@@ -1,5 +1,5 @@
 -- The rows at a base are those of a table, as the launch table is; and rows of a table can be sent.
-use Rattle.std.proofs.Common.{◌≡◌, ℕ, ◌+◌, eqb, true, arith, Some, List, [], ◌∷◌, get_or, ℤ, refl, sym, ap, subst, ◌∙◌, inl, inr}
+use Rattle.std.proofs.Common.{length, ◌≡◌, ℕ, ◌+◌, eqb, true, arith, Some, List, [], ◌∷◌, get_or, ℤ, refl, sym, ap, subst, ◌∙◌, inl, inr}
 use Rattle.std.specs.Prelude.{not, is_some, slice_get, slice_set}
 use Rattle.std.specs.List.{AllByRecursion, Contains}
 use Rattle.std.proofs.Math.ListN.{length-set}
@@ -78,7 +78,7 @@ stand-one table old new (End job at kind) (inl (takes, is)) stand =
     let here : JobRow = get_or old job (fresh_row job) in
     record {
       numbered = stand-set old (row_count (table_size table)) job takes.row (closed_row at kind here) takes.is_row (closed-job at kind here ∙ ap (λ (r : JobRow). r.job) row) after.numbered;
-      ends = ends-set old (table_size table) job takes.row (closed_row at kind here) takes.is_row (λ same. closed-other 0 at kind here) after.ends;
+      ends = ends-set old (table_size table) job takes.row (closed_row at kind here) takes.is_row (λ same. closed-other (length table.later) at kind here) after.ends;
     }
 
 -- where the launch table is of the table of jobs, the rows at the base are

@@ -2,7 +2,7 @@
 use Rattle.std.proofs.Common.{◌≡◌, ℕ, ◌≤◌, List, None, All, sym, subst, ◌∙◌}
 use Rattle.std.proofs.lemmas.List.Elements.{All-weaker}
 use Rattle.std.proofs.lemmas.Option.{slice_get_within}
-use Rattle.due_set.specs.Table.{Table}
+use Rattle.due_set.specs.Table.{IsSound, Table}
 use Rattle.cluster_sched.specs.Held.{AreNamedOnce}
 use Rattle.cluster_sched.specs.Names.{IsNameIn}
 use Rattle.cluster_sched.specs.declared.row.SchedRow.{SchedRow}
@@ -22,12 +22,12 @@ use Rattle.report_text.specs.Report.{IsReport}
 use Rattle.report_text.proofs.OneOrder.{one_text}
 
 -- a row whose start takes effect is of a launch of the table
-name_of_backed : (table : Table) (log : List Entry) (row : SchedRow) → IsBacked table log row → IsNameIn table row.name
-name_of_backed table log row backed =
+name_of_backed : (table : Table) (log : List Entry) (row : SchedRow) → IsSound table → IsBacked table log row → IsNameIn table row.name
+name_of_backed table log row sound backed =
     let start = backed.start.1.takes.2 in
     record {
       job = slice_get_within table.jobs row.name.job backed.spec backed.is_in.is_job;
-      inside = start_near table row.name.job start.row row.name.at backed.start.0 start.may;
+      inside = start_near table row.name.job start.row row.name.at backed.start.0 sound start.may;
     }
 
 module _ (table : Table) (members : ℕ) (rows : List Row) (few : members ≤ 7) (legal : IsLegal members table rows) where
@@ -35,18 +35,21 @@ module _ (table : Table) (members : ℕ) (rows : List Row) (few : members ≤ 7)
   fits : (log : List Entry) × Fits table log (held_in members table rows)
   fits = let (log, is_log) = book_log members table rows few legal in (log, whole members table rows few legal log is_log)
 
-  pub named : All (λ (row : SchedRow). IsNameIn table row.name) (held_in members table rows)
-  named =
-      All-weaker (IsBacked table fits.0) (λ (row : SchedRow). IsNameIn table row.name) (name_of_backed table fits.0) (held_in members table rows) fits.1.backed
-
   pub once : AreNamedOnce (held_in members table rows)
   once = fits.1.once
 
+pub named : (table : Table) (members : ℕ) (rows : List Row) → members ≤ 7 → IsSound table → IsLegal members table rows
+    → All (λ (row : SchedRow). IsNameIn table row.name) (held_in members table rows)
+named table members rows few sound legal =
+    let found = fits table members rows few legal in
+    All-weaker (IsBacked table found.0) (λ (row : SchedRow). IsNameIn table row.name) (λ row. name_of_backed table found.0 row sound)
+    (held_in members table rows) found.1.backed
+
 -- the rows that the ledger holds are launches of the table
-pub named_at_rest : (table : Table) (rows : List Row) (book : BookState) → book.members ≤ 7 → StandsBehind table rows book → book.pending ≡ None
+pub named_at_rest : (table : Table) (rows : List Row) (book : BookState) → book.members ≤ 7 → IsSound table → StandsBehind table rows book → book.pending ≡ None
     → All (λ (row : SchedRow). IsNameIn table row.name) book.ledger.held
-named_at_rest table rows book few behind rest =
-    subst (All (λ (row : SchedRow). IsNameIn table row.name)) (sym (held_at_rest table rows book rest behind)) (named table book.members rows few behind.legal)
+named_at_rest table rows book few sound behind rest =
+    subst (All (λ (row : SchedRow). IsNameIn table row.name)) (sym (held_at_rest table rows book rest behind)) (named table book.members rows few sound behind.legal)
 
 -- the report of what the ledger holds is the book's
 pub book_report : (table : Table) (rows : List Row) (book : BookState) (text : List ℕ) → StandsBehind table rows book → book.pending ≡ None

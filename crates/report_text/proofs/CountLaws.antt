@@ -66,17 +66,17 @@ all_launches table held launches =
     All-weaker (λ (row : SchedRow). IsWanted table held row × (row.kind ≡ Launch)) (λ row. row.kind ≡ Launch) (λ row both. both.1) held launches.no_other
 
 pub launches_counted : (table : Table) (held : List SchedRow) (job : ℕ) (dues : List ℤ) → AreNamedOnce held → LaunchesEachDue table held
-    → (IsRunByPeriod table job → ⊥) → IsJobDueList table job dues → count_of_kind held job Launch ≡ length dues
+    → (IsRunByPeriod table job → ⊥) → IsJobDueList table 0 job dues → count_of_kind held job Launch ≡ length dues
 launches_counted table held job dues once launches other list =
     let order = some_order held in
     let rows = order.0 in
-    let listed : IsJobDueList table job (instants_of rows job) = each_due_listed table held rows job once launches order.1 other in
+    let listed : IsJobDueList table 0 job (instants_of rows job) = each_due_listed table held rows job once launches order.1 other in
     let at_of : SchedRow → ℤ = λ row. row.name.at in
     all_counted held job (all_launches table held launches)
     ∙ sym (sum_by-IsPermutation (one_if (is_of job)) held rows order.1.same)
     ∙ sym (length-filter (is_of job) rows)
     ∙ sym (length-map (filter (is_of job) rows) at_of)
-    ∙ ap length (IsJobDueList-same table job (instants_of rows job) dues listed list)
+    ∙ ap length (IsJobDueList-same table 0 job (instants_of rows job) dues listed list)
 
 pub no_void_counted : (table : Table) (held : List SchedRow) (job : ℕ) → LaunchesEachDue table held → count_of_kind held job Void ≡ 0
 no_void_counted table held job launches = none_voided held job (all_launches table held launches)

@@ -8,8 +8,7 @@ use Rattle.std.proofs.lemmas.List.FromFn.{fill_by_all, length-range_with_len, ge
 use Rattle.std.proofs.lemmas.List.Sums.{sum_by_more, count_by-le-length}
 use Rattle.paxos_base.specs.declared.entry.Kind.{Kind}
 use Rattle.paxos_base.specs.declared.entry.Kind.TheVariants.{Launch, Void}
-use Rattle.due_set.specs.Table.{Table}
-use Rattle.cluster_sched.specs.Names.{job_name}
+use Rattle.due_set.specs.Table.{Table, job_name}
 use Rattle.cluster_sched.specs.declared.row.SchedRow.{SchedRow}
 use Rattle.report_text.specs.Counts.{counted, counts_of_job}
 use Rattle.report_text.specs.Report.{count_line, count_of_kind, is_same_kind, job_line}

@@ -82,15 +82,15 @@ row_listed held rows job at row x among of_job is_at =
     (Contains-map at_of (filter (is_of job) rows) row (Contains-filter (is_of job) rows row (eq-eqb _ _ of_job) among_rows))
 
 listed_is_due : (table : Table) (held rows : List SchedRow) (job : ℕ) → (IsRunByPeriod table job → ⊥) → LaunchesEachDue table held → IsInOrder held rows
-    → (instant : ℤ) → Contains (instants_of rows job) instant → IsJobDue table job instant
+    → (instant : ℤ) → Contains (instants_of rows job) instant → IsJobDue table 0 job instant
 listed_is_due table held rows job other launches x instant h =
     let listed = listed_row held rows job instant x h in
-    let due : IsJobDue table listed.row.name.job listed.row.name.at =
+    let due : IsJobDue table 0 listed.row.name.job listed.row.name.at =
     launched_due table held listed.row launches listed.among (λ by. other (subst (IsRunByPeriod table) listed.of_job by)) in
-    subst (λ at. IsJobDue table job at) listed.is_at (subst (λ k. IsJobDue table k listed.row.name.at) listed.of_job due)
+    subst (λ at. IsJobDue table 0 job at) listed.is_at (subst (λ k. IsJobDue table 0 k listed.row.name.at) listed.of_job due)
 
 due_is_listed : (table : Table) (held rows : List SchedRow) (job : ℕ) → LaunchesEachDue table held → IsInOrder held rows
-    → (instant : ℤ) → IsJobDue table job instant → Contains (instants_of rows job) instant
+    → (instant : ℤ) → IsJobDue table 0 job instant → Contains (instants_of rows job) instant
 due_is_listed table held rows job launches x instant due =
     let h = launches.each job instant due in
     row_listed held rows job instant h.row x h.among h.of_job h.due_at
@@ -101,7 +101,7 @@ listed_rise held rows job once x =
     rising job (filter (is_of job) rows) (filter_passes (is_of job) rows) (AllPairs-filter IsBefore (is_of job) rows (all_before held rows once x))
 
 pub each_due_listed : (table : Table) (held rows : List SchedRow) (job : ℕ) → AreNamedOnce held → LaunchesEachDue table held → IsInOrder held rows
-    → (IsRunByPeriod table job → ⊥) → IsJobDueList table job (instants_of rows job)
+    → (IsRunByPeriod table job → ⊥) → IsJobDueList table 0 job (instants_of rows job)
 each_due_listed table held rows job once launches x other = record {
   rising = listed_rise held rows job once x;
   sound = listed_is_due table held rows job other launches x;
@@ -113,7 +113,7 @@ listed_opens : (table : Table) (held rows : List SchedRow) (job : ℕ) (date : �
 listed_opens table held rows job date launches x by h =
     let listed = listed_row held rows job date x h in
     elim (All-contains (λ (row : SchedRow). IsWanted table held row × (row.kind ≡ Launch)) held listed.row launches.no_other listed.among).0 [
-      | inl due ↦ absurd (due_by_instant table job listed.row.name.at (subst (λ k. IsJobDue table k listed.row.name.at) listed.of_job due) by)
+      | inl due ↦ absurd (due_by_instant table job listed.row.name.at (subst (λ k. IsJobDue table 0 k listed.row.name.at) listed.of_job due) by)
       | inr opens ↦ (
         listed.row.now.0,
         subst (λ at. OpensBy table held job listed.row.now.0 at) listed.is_at

@@ -4,10 +4,10 @@ use Rattle.std.specs.Prelude.{◌≡◌, ◌⊎◌, ℕ, ◌<◌, ◌==◌, ◌&
 use Rattle.std.specs.List.{range_with_len}
 use Rattle.std.specs.List.Sorted.{IsPermutation}
 use Rattle.zone_minutes.specs.Window.{window_line}
-use Rattle.due_set.specs.Table.{Table}
+use Rattle.due_set.specs.Table.{Table, job_name}
 use Rattle.paxos_base.specs.declared.entry.Kind.{Kind}
 use Rattle.paxos_base.specs.declared.entry.Kind.TheVariants.{Launch, Void}
-use Rattle.cluster_sched.specs.Names.{job_name, name_text}
+use Rattle.cluster_sched.specs.Names.{name_text}
 use Rattle.cluster_sched.specs.declared.row.Name.{Name}
 use Rattle.cluster_sched.specs.declared.row.SchedRow.{SchedRow}
 use Rattle.cron_io.specs.Lines.{text_of_lines}

@@ -29,5 +29,7 @@ pub fn write_book_report<K: Sink>(
     requires rest { book.now.pending ≡ None }
     ensures { (text : List ℕ) × IsBookReport table.now book.now text × Writes (K.seen sink.old) (K.seen sink.new) result text }
 {
+    // What holds of each table makes each name that is held one of its launches.
+    let _ = table.window();
     write_report(alloc, sink, table, members, book.ledger().held())
 }

@@ -28,7 +28,7 @@ pub fn a_report_says_one_text()
 /// nothing else is held, the rows of a job in the report's order are its due instants in order.
 pub fn a_report_lists_each_due_instant()
     ensures { (table : Table) (held rows : List SchedRow) (job : ℕ) → AreNamedOnce held → LaunchesEachDue table held → IsInOrder held rows
-        → (IsRunByPeriod table job → ⊥) → IsJobDueList table job (instants_of rows job) }
+        → (IsRunByPeriod table job → ⊥) → IsJobDueList table 0 job (instants_of rows job) }
 {}
 
 /// The launch lines of a report, of each job that runs by its period: the rows of a job in the report's order rise, and are
@@ -46,7 +46,7 @@ pub fn a_report_counts_what_it_lists()
     ensures listed { (held rows : List SchedRow) (job : ℕ) (kind : Kind) → IsInOrder held rows
         → count_of_kind held job kind ≡ length (rows_of_kind rows job kind) }
     ensures launched { (table : Table) (held : List SchedRow) (job : ℕ) (dues : List ℤ) → AreNamedOnce held → LaunchesEachDue table held
-        → (IsRunByPeriod table job → ⊥) → IsJobDueList table job dues → count_of_kind held job Launch ≡ length dues }
+        → (IsRunByPeriod table job → ⊥) → IsJobDueList table 0 job dues → count_of_kind held job Launch ≡ length dues }
     ensures void { (table : Table) (held : List SchedRow) (job : ℕ) → LaunchesEachDue table held → count_of_kind held job Void ≡ 0 }
 {}
 

@@ -1,7 +1,8 @@
 //! The report's lines, each by one write.
 ghost use Rattle.std.specs.Prelude.{◌≡◌, ◌++◌, ◌∷◌, [], ◌<◌, length, codes, decimal, string_bytes, OnOk};
 ghost use Rattle.zone_minutes.specs.Civil.{IsCalendarMinute};
-ghost use Rattle.cluster_sched.specs.Names.{IsNameIn, job_name};
+ghost use Rattle.due_set.specs.Table.{job_name};
+ghost use Rattle.cluster_sched.specs.Names.{IsNameIn};
 ghost use Rattle.report_text.specs.Report.{job_line, row_line};
 ghost use Rattle.zone_minutes.specs.Window.{window_line};
 ghost use Rattle.report_text.specs.Writes.{Writes};

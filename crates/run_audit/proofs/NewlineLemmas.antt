@@ -6,14 +6,12 @@ use Rattle.std.proofs.lemmas.List.Elements.{All-weaker}
 use Rattle.due_set.proofs.TableLemmas.{All-slice_get}
 use Rattle.cron_io.specs.Lines.{text_of_lines}
 use Rattle.zone_minutes.specs.Stamp.{basic_stamp_text, date_text, stamp_text}
-use Rattle.cluster_sched.specs.Names.{job_kind, job_name, name_of, name_text, time_text}
+use Rattle.cluster_sched.specs.Names.{name_text, time_text}
 use Rattle.cluster_sched.specs.declared.fate.Fate.{Fate}
 use Rattle.cluster_sched.specs.declared.fate.Fate.TheVariants.{Done, LostBefore, LostAfter, Late}
 use Rattle.cluster_sched.specs.declared.row.Name.{Name}
 use Rattle.cluster_sched.specs.declared.row.SchedRow.{SchedRow}
-use Rattle.due_set.specs.Table.{Job, Table}
-use Rattle.due_set.specs.declared.job.JobKind.{JobKind}
-use Rattle.due_set.specs.declared.job.JobKind.TheVariants.{Anacron, Crontab, Never}
+use Rattle.due_set.specs.Table.{Job, Table, is_by_period, job_name, name_of}
 use Rattle.job_table.specs.Names.{HaveWordNames, IsWordByte}
 use Rattle.job_table.proofs.NameLemmas.{decimal_word}
 use Rattle.paxos_base.specs.declared.entry.Kind.{Kind}
@@ -71,15 +69,14 @@ stamp_lacks : (at : ℤ) → LacksNewline (stamp_text at)
 unfolding stamp_text
 stamp_lacks at = search (rules, no_newline)
 
-time_lacks : (kind : JobKind) (at : ℤ) → LacksNewline (time_text kind at)
+time_lacks : (by_period : Bool) (at : ℤ) → LacksNewline (time_text by_period at)
 unfolding basic_stamp_text date_text
-time_lacks (Anacron period first last) at = search (rules, no_newline)
-time_lacks (Crontab fields) at = search (rules, no_newline)
-time_lacks Never at = search (rules, no_newline)
+time_lacks true at = search (rules, no_newline)
+time_lacks false at = search (rules, no_newline)
 
 name_lacks : (table : Table) (name : Name) → HaveWordNames table.jobs → LacksNewline (name_text table name)
 name_lacks table name names =
-    both_lack (job_name table name.job) (64 ∷ time_text (job_kind table name.job) name.at) (job_lacks table name.job names) ((λ e. omega arith), time_lacks (job_kind table name.job) name.at)
+    both_lack (job_name table name.job) (64 ∷ time_text (is_by_period table name.job) name.at) (job_lacks table name.job names) ((λ e. omega arith), time_lacks (is_by_period table name.job) name.at)
 
 cause_lacks : (cause : Cause) → LacksNewline (cause_words cause)
 cause_lacks Campaign = search rules

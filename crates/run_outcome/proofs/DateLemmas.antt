@@ -45,7 +45,7 @@ use Rattle.launch_safety.proofs.SettledLemmas.{row_of}
 pub later_than_each : (table : Table) (held : List SchedRow) (job : ℕ) (now date at then : ℤ) → OpensBy table held job now date → IsCalledAt held job at Launch then → then <ℤ now → at <ℤ date
 later_than_each table held job now date at then by called sooner = go by.last by.latest by.opens
   where
-    go : (last : Option ℤ) → IsLatest held job now last → IsJobOpen table job last last now date → at <ℤ date
+    go : (last : Option ℤ) → IsLatest held job now last → IsJobOpen table 0 job last last now date → at <ℤ date
     go None none opens = absurd (none at then called sooner)
     go (Some last) known opens =
         let low = known.last then at called sooner in
@@ -62,7 +62,7 @@ after_day at day shown is come off =
 
 module _ (n : ℕ) (table : Table) (book : List Row) (job : ℕ) (now date : ℤ) (few : n ≤ 7) (legal : IsLegal n table book) (by : OpensBy table (held_in n table book) job now date)
     (passes : Passes n table now book) (log : List Entry) (is_log : IsLog n (votes_in passes.front) log) where
-  abbrev opens : IsJobOpen table job by.last by.last now date
+  abbrev opens : IsJobOpen table 0 job by.last by.last now date
   opens = by.opens
 
   front_is : IsLegal n table passes.front
@@ -97,7 +97,7 @@ module _ (n : ℕ) (table : Table) (book : List Row) (job : ℕ) (now date : ℤ
       let here : Contains (held_in n table book) row = still_held row found.among in
       let low : row.now.0 ≤ℤ now = held_by n table now passes.front row front_is passes.by found.among in
       let backed : IsBacked table log row = All-contains (IsBacked table log) (held_in n table passes.front) row fits.backed found.among in
-      let is_in : IsJobIn table row.name.job opens.job opens.zone = subst (λ number. IsJobIn table number opens.job opens.zone) (sym found.of_job) opens.is_in in
+      let is_in : IsJobIn table 0 row.name.job opens.job opens.zone = subst (λ number. IsJobIn table 0 number opens.job opens.zone) (sym found.of_job) opens.is_in in
       let on_time : day_number (local_of opens.zone row.now.0) ≡ row.name.at =
       subst (λ (k : JobKind). IsOnTime k opens.zone table.grace row.name.at row.now.0) opens.kind ((backed.kind opens.job opens.zone is_in).0 found.of_kind) in
       by_lt_z row.now.0 now
@@ -122,7 +122,7 @@ module _ (n : ℕ) (table : Table) (book : List Row) (job : ℕ) (now date : ℤ
       let takes = start.takes.2 in
       let began = may_start_on table job takes.row day then by_period takes.may in
       let shown : day ≡ day_number (local_of opens.zone then) =
-      began.is_date ∙ ap day_number (same_local table job began.job opens.job began.zone opens.zone then began.is_in opens.is_in) in
+      began.is_date ∙ ap day_number (same_local table 0 job began.job opens.job began.zone opens.zone then began.is_in opens.is_in) in
       let there = front_log n table book few legal passes.front passes.back log passes.parts is_log in
       inr (inl (record {
         log = there.whole;
@@ -146,12 +146,12 @@ module _ (n : ℕ) (table : Table) (book : List Row) (job : ℕ) (now date : ℤ
       let row = found.row in
       let read : row.now.0 ≤ℤ now = held_by n table now passes.front row front_is passes.by found.among in
       let backed : IsBacked table log row = All-contains (IsBacked table log) (held_in n table passes.front) row fits.backed found.among in
-      let is_in : IsJobIn table row.name.job opens.job opens.zone = subst (λ number. IsJobIn table number opens.job opens.zone) (sym found.of_job) opens.is_in in
-      let spec = same_job table row.name.job backed.spec opens.job backed.is_in.is_job is_in.is_job in
+      let is_in : IsJobIn table 0 row.name.job opens.job opens.zone = subst (λ number. IsJobIn table 0 number opens.job opens.zone) (sym found.of_job) opens.is_in in
+      let spec = same_job table 0 row.name.job backed.spec opens.job backed.is_in.is_job is_in.is_job in
       let come_there : row.name.at ≤ℤ day_number (local_of backed.zone row.now.0) =
       subst (λ (k : JobKind). HasCome k backed.zone row.name.at row.now.0) (ap (λ (j : Job). j.kind) spec ∙ opens.kind) backed.come in
       let come : row.name.at ≤ℤ day_number (local_of opens.zone row.now.0) =
-      subst (λ local. row.name.at ≤ℤ day_number local) (same_local table row.name.job backed.spec opens.job backed.zone opens.zone row.now.0 backed.is_in is_in) come_there in
+      subst (λ local. row.name.at ≤ℤ day_number local) (same_local table 0 row.name.job backed.spec opens.job backed.zone opens.zone row.now.0 backed.is_in is_in) come_there in
       let later : day <ℤ day_number (local_of opens.zone row.now.0) =
       after_day row.name.at day (day_number (local_of opens.zone row.now.0)) found.due_at come
       (λ same. not_both row.kind found.of_kind ((backed.kind opens.job opens.zone is_in).1

@@ -76,7 +76,7 @@ module _ (n : ℕ) (table : Table) (rows : List Row) (few : n ≤ 7) (legal : Is
       abbrev row : JobRow
       row = start.takes.2.row
 
-      opened : IsJobOpen table job row.last row.cursor now at
+      opened : IsJobOpen table 0 job row.last row.cursor now at
       opened = opens n table rows few legal known log is_log job at now start by_period
 
       dated : IsDated table start.before job row.cursor row.open_now row.last
@@ -129,7 +129,7 @@ module _ (n : ℕ) (table : Table) (rows : List Row) (few : n ≤ 7) (legal : Is
           let shown = opened.is_date in
           omega (arith, ints, after, le, shown)) in
           let shown : last ≡ day_number (local_of opened.zone then) =
-          earlier.is_date ∙ ap day_number (same_local table job earlier.job opened.job earlier.zone opened.zone then earlier.is_in opened.is_in) in
+          earlier.is_date ∙ ap day_number (same_local table 0 job earlier.job opened.job earlier.zone opened.zone then earlier.is_in opened.is_in) in
           let differs : then ≡ now → ⊥ =
           (λ same.
           let here : last ≡ at = shown ∙ ap (λ instant. day_number (local_of opened.zone instant)) same ∙ sym opened.is_date in

@@ -57,7 +57,7 @@ voided_passed members table rows job now date few legal by voided =
     record {
       spec = backed.spec;
       zone = backed.zone;
-      is_in = subst (λ number. IsJobIn table number backed.spec backed.zone) voided.void.of_job backed.is_in;
+      is_in = subst (λ number. IsJobIn table 0 number backed.spec backed.zone) voided.void.of_job backed.is_in;
       then = row.now.0;
       sooner = omega (arith, ints, read, sooner);
       later = omega (arith, ints, shown, day, reached);

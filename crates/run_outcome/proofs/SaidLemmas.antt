@@ -94,20 +94,20 @@ said_settled members table script rows log launch few whole is_log clerk =
     )
 
 pub said_ended : (members : ℕ) (table : Table) (script : List Command) (rows : List Row) (log : List Entry) (job : ℕ) (at : ℤ) → members ≤ 7 → IsWholeRun members table script rows
-    → IsLog members (votes_in rows) log → IsJobDue table job at → HasStart table log job at × (kind : Kind) × HasEnd table log job at kind
+    → IsLog members (votes_in rows) log → IsJobDue table 0 job at → HasStart table log job at × (kind : Kind) × HasEnd table log job at kind
 said_ended members table script rows log job at few whole is_log due =
     subst (λ (other : List Entry). HasStart table other job at × (kind : Kind) × HasEnd table other job at kind) (the_log members table script rows log few whole is_log) (whole.ended job at due)
 
-pub said_later : (members : ℕ) (table : Table) (script : List Command) (rows : List Row) (whole : IsWholeRun members table script rows) (job : ℕ) (at : ℤ) → IsJobDue table job at
+pub said_later : (members : ℕ) (table : Table) (script : List Command) (rows : List Row) (whole : IsWholeRun members table script rows) (job : ℕ) (at : ℤ) → IsJobDue table 0 job at
     → AreTurnsBy at (script_turns whole.obeyed) → IsHeld (held_in members table rows) job at Launch
 said_later members table script rows whole job at due by =
     let called = whole.later job at due by in
     record { row = called.row; among = called.among; of_job = called.of_job; due_at = called.due_at; of_kind = called.of_kind }
 
-pub said_at_once : (members : ℕ) (table : Table) (script : List Command) (rows : List Row) (whole : IsWholeRun members table script rows) (job : ℕ) (at : ℤ) → IsJobDue table job at
+pub said_at_once : (members : ℕ) (table : Table) (script : List Command) (rows : List Row) (whole : IsWholeRun members table script rows) (job : ℕ) (at : ℤ) → IsJobDue table 0 job at
     → AreTurnsBy at (script_turns whole.obeyed) → IsCalledAt (held_in members table rows) job at Launch at
 said_at_once members table script rows whole job at = whole.later job at
 
-pub said_all : (members : ℕ) (table : Table) (script : List Command) (rows : List Row) (job : ℕ) (at : ℤ) → IsWholeRun members table script rows → IsGraceLong table → IsJobDue table job at
+pub said_all : (members : ℕ) (table : Table) (script : List Command) (rows : List Row) (job : ℕ) (at : ℤ) → IsWholeRun members table script rows → IsGraceLong table → IsJobDue table 0 job at
     → IsHeld (held_in members table rows) job at Launch
 said_all members table script rows job at whole long = whole.all long job at

@@ -48,7 +48,7 @@ table_of n table book log who at few legal is_log asks =
 
 -- so each due instant up to the one at which it asks for nothing was started and has ended
 pub over : (n : ℕ) (table : Table) (book : List Row) (log : List Entry) (who : ℕ) (until : ℤ) (job : ℕ) (at : ℤ) → n ≤ 7 → IsLegal n table book → IsLog n (votes_in book) log
-    → AsksNothing table until ((standing_after n (first_rows table) book).replicas who) → IsJobDue table job at → at ≤ℤ until
+    → AsksNothing table until ((standing_after n (first_rows table) book).replicas who) → IsJobDue table 0 job at → at ≤ℤ until
     → HasStart table log job at × (kind : Kind) × HasEnd table log job at kind
 over n table book log who until job at few legal is_log asks due come =
     let k = prefix_of ((standing_after n (first_rows table) book).replicas who) in
@@ -74,14 +74,14 @@ same_of : {X : Type 0} {a b : X} → Some a ≡ Some b → a ≡ b
 same_of is = cc
 
 row_of : (n : ℕ) (table : Table) (book : List Row) (who : ℕ) (until : ℤ) (job : ℕ) (at : ℤ) → n ≤ 7 → IsLegal n table book
-    → AsksNothing table until ((standing_after n (first_rows table) book).replicas who) → IsJobDue table job at → at ≤ℤ until → IsRowOf table (held_in n table book) job at
+    → AsksNothing table until ((standing_after n (first_rows table) book).replicas who) → IsJobDue table 0 job at → at ≤ℤ until → IsRowOf table (held_in n table book) job at
 row_of n table book who until job at few legal asks due come =
     let (log, is_log) = book_log n table book few legal in
     let fits : Fits table log (held_in n table book) = whole n table book few legal log is_log in
     let (start, kind, ended) = over n table book log who until job at few legal is_log asks due come in
     let found : IsHeld (held_in n table book) job at kind = fits.ended job at kind ended in
     let backed : IsBacked table log found.row = All-contains (IsBacked table log) (held_in n table book) found.row fits.backed found.among in
-    let is_in : IsJobIn table found.row.name.job due.job due.zone = subst (λ number. IsJobIn table number due.job due.zone) (sym found.of_job) due.is_in in
+    let is_in : IsJobIn table 0 found.row.name.job due.job due.zone = subst (λ number. IsJobIn table 0 number due.job due.zone) (sym found.of_job) due.is_in in
     let kinds = backed.kind due.job due.zone is_in in
     let spec : backed.spec ≡ due.job = same_of (sym backed.is_in.is_job ∙ is_in.is_job) in
     record {
@@ -105,7 +105,7 @@ pub record Passes (n : ℕ) (table : Table) (at : ℤ) (book : List Row) : Type 
   pub asks : AsksNothing table at ((standing_after n (first_rows table) front).replicas who)
 
 -- so a due instant then was called at that instant, and is held as launched
-pub called : (n : ℕ) (table : Table) (book : List Row) (job : ℕ) (at : ℤ) → n ≤ 7 → IsLegal n table book → IsJobDue table job at → Passes n table at book → IsCalledAt (held_in n table book) job at Launch at
+pub called : (n : ℕ) (table : Table) (book : List Row) (job : ℕ) (at : ℤ) → n ≤ 7 → IsLegal n table book → IsJobDue table 0 job at → Passes n table at book → IsCalledAt (held_in n table book) job at Launch at
 called n table book job at few legal due passes =
     let front = passes.front in
     let front_is : IsLegal n table front = front_legal n table front passes.back (subst (λ rows. IsLegal n table rows) passes.parts legal) in
@@ -134,13 +134,13 @@ pub record EndsAtRest (n : ℕ) (table : Table) (book : List Row) : Type 0 where
   pub asks : AsksNothing table (table.window.until.0 -ℤ pos 1) ((standing_after n (first_rows table) book).replicas who)
 
 -- so each due instant has ended, and is held as launched where grace lasts as long as the window
-pub ended : (n : ℕ) (table : Table) (book : List Row) (log : List Entry) (job : ℕ) (at : ℤ) → n ≤ 7 → IsLegal n table book → IsLog n (votes_in book) log → EndsAtRest n table book → IsJobDue table job at
+pub ended : (n : ℕ) (table : Table) (book : List Row) (log : List Entry) (job : ℕ) (at : ℤ) → n ≤ 7 → IsLegal n table book → IsLog n (votes_in book) log → EndsAtRest n table book → IsJobDue table 0 job at
     → HasStart table log job at × (kind : Kind) × HasEnd table log job at kind
 ended n table book log job at few legal is_log rest due =
     let before = due.inside.before in
     over n table book log rest.who (table.window.until.0 -ℤ pos 1) job at few legal is_log rest.asks due (omega (arith, ints, before))
 
-pub launched : (n : ℕ) (table : Table) (book : List Row) (job : ℕ) (at : ℤ) → n ≤ 7 → IsLegal n table book → EndsAtRest n table book → IsGraceLong table → IsJobDue table job at
+pub launched : (n : ℕ) (table : Table) (book : List Row) (job : ℕ) (at : ℤ) → n ≤ 7 → IsLegal n table book → EndsAtRest n table book → IsGraceLong table → IsJobDue table 0 job at
     → IsHeld (held_in n table book) job at Launch
 launched n table book job at few legal rest long due =
     let before = due.inside.before in

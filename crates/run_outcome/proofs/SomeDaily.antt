@@ -12,7 +12,8 @@ use Rattle.zone_minutes.specs.declared.minute.Window.{Window}
 use Rattle.zone_minutes.proofs.ZoneLemmas.{local_of-fixed}
 use Rattle.due_set.specs.Anacron.{IsJobOpen, MayOpenOn}
 use Rattle.due_set.specs.Calls.{IsOnTime}
-use Rattle.due_set.specs.Table.{IsBuiltFor, IsJobIn, IsSound, Job, Table, utc_over}
+use Rattle.due_set.proofs.SoundLemmas.{no_later}
+use Rattle.due_set.specs.Table.{IsKindOfName, IsBuiltFor, IsJobIn, IsSound, Job, Table, utc_over}
 use Rattle.due_set.specs.declared.job.JobKind.TheVariants.{Anacron}
 use Rattle.due_set.specs.declared.job.Period.TheVariants.{Days}
 use Rattle.due_set.proofs.MatchingLemmas.{minute_of_day-below}
@@ -34,7 +35,7 @@ use Rattle.history.proofs.Asks.{utc, with_table}
 -- ---- the table
 
 abbrev daily_job : Job
-daily_job = record { name = []; zone = 0; kind = Anacron (Days 1) 0 1440 }
+daily_job = record { name = 47 ∷ []; zone = 0; kind = Anacron (Days 1) 0 1440 }
 
 abbrev one_minute : Window
 one_minute = record { from = record { 0 = pos 525_600 }; until = record { 0 = pos 525_601 } }
@@ -43,7 +44,7 @@ abbrev only_zone : Zone
 only_zone = utc_over one_minute
 
 abbrev pub daily : Table
-daily = record { window = one_minute; grace = 0; zones = only_zone ∷ []; jobs = daily_job ∷ [] }
+daily = record { window = one_minute; grace = 0; zones = only_zone ∷ []; jobs = daily_job ∷ []; later = [] }
 
 -- its one minute, and the day of that
 abbrev pub now : ℤ
@@ -63,13 +64,15 @@ sound = record {
   zone_numbers = All-cons (λ job. job.zone < 1) daily_job [] (lit< tt) (All-nil (λ job. job.zone < 1));
   few = omega arith;
   distinct = λ i j d before within. absurd (omega (arith, before, within));
+  kinds = All-cons (λ job. IsKindOfName job.name job.kind) daily_job [] refl (All-nil (λ job. IsKindOfName job.name job.kind));
+  versions = no_later daily;
 }
 
-job_in : IsJobIn daily 0 daily_job utc.0
+job_in : IsJobIn daily 0 0 daily_job utc.0
 job_in = record { is_job = refl; source = only_zone; is_zone = refl; read = utc.1 }
 
 -- the job of the table is that one, in UTC
-only_one : (spec : Job) (zone : TimeZone) → IsJobIn daily 0 spec zone → (daily_job ≡ spec) × IsReadAs (FixedOffset (pos 0)) zone
+only_one : (spec : Job) (zone : TimeZone) → IsJobIn daily 0 0 spec zone → (daily_job ≡ spec) × IsReadAs (FixedOffset (pos 0)) zone
 only_one spec zone is_in =
     let same : daily_job ≡ spec = first_job daily_job spec is_in.is_job in
     let at : slice_get daily.zones 0 ≡ Some is_in.source = subst (λ (job : Job). slice_get daily.zones job.zone ≡ Some is_in.source) (sym same) is_in.is_zone in
@@ -85,7 +88,7 @@ only_one spec zone is_in =
 shown : (zone : TimeZone) → IsReadAs (FixedOffset (pos 0)) zone → day_number (local_of zone now) ≡ today
 shown zone read = (let day : day_number (now +ℤ pos 0) ≡ today = refl in ap day_number (local_of-fixed (pos 0) now zone read) ∙ day)
 
-pub opens : IsJobOpen daily 0 None None now today
+pub opens : IsJobOpen daily 0 0 None None now today
 opens =
     let is : day_number (local_of utc.0 now) ≡ today = shown utc.0 utc.1 in
     record {

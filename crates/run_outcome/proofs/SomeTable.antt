@@ -7,7 +7,8 @@ use Rattle.zone_minutes.specs.Zone.{Zone}
 use Rattle.zone_minutes.specs.declared.minute.Window.{Window}
 use Rattle.zone_minutes.proofs.ZoneLemmas.{local_of-fixed}
 use Rattle.due_set.specs.Calls.{IsOnTime}
-use Rattle.due_set.specs.Table.{IsBuiltFor, IsJobDue, IsJobIn, IsNextDue, IsSound, Job, Table, utc_over}
+use Rattle.due_set.proofs.SoundLemmas.{no_later}
+use Rattle.due_set.specs.Table.{IsKindOfName, IsBuiltFor, IsJobDue, IsJobIn, IsNextDue, IsSound, Job, Table, utc_over}
 use Rattle.paxos_base.specs.Rows.{fresh_row}
 use Rattle.paxos_base.specs.declared.entry.Entry.{Entry}
 use Rattle.paxos_base.specs.declared.entry.Entry.TheVariants as entry
@@ -30,7 +31,7 @@ abbrev only_zone : Zone
 only_zone = utc_over two_minutes
 
 abbrev pub brief : Table
-brief = record { window = two_minutes; grace = 2; zones = only_zone ∷ []; jobs = only_job ∷ [] }
+brief = record { window = two_minutes; grace = 2; zones = only_zone ∷ []; jobs = only_job ∷ []; later = [] }
 
 -- the minutes of the window, from 0 on
 abbrev pub minute : ℕ → ℤ
@@ -47,14 +48,16 @@ sound = record {
   zone_numbers = All-cons (λ job. job.zone < 1) only_job [] (lit< tt) (All-nil (λ job. job.zone < 1));
   few = omega arith;
   distinct = λ i j d before within. absurd (omega (arith, before, within));
+  kinds = All-cons (λ job. IsKindOfName job.name job.kind) only_job [] refl (All-nil (λ job. IsKindOfName job.name job.kind));
+  versions = no_later brief;
 }
 
 -- ---- when the job is due
 
-job_in : IsJobIn brief 0 only_job utc.0
+job_in : IsJobIn brief 0 0 only_job utc.0
 job_in = record { is_job = refl; source = only_zone; is_zone = refl; read = utc.1 }
 
-pub due : (k : ℕ) → k < 2 → IsJobDue brief 0 (minute k)
+pub due : (k : ℕ) → k < 2 → IsJobDue brief 0 0 (minute k)
 due k within = record {
   job = only_job;
   zone = utc.0;
@@ -70,7 +73,7 @@ abbrev minute_before : ℕ → Option ℤ
 minute_before zero = None
 minute_before (suc k) = Some (minute k)
 
-next : (k : ℕ) → k < 2 → IsNextDue brief 0 (minute_before k) (minute k)
+next : (k : ℕ) → k < 2 → IsNextDue brief 0 0 (minute_before k) (minute k)
 next zero within = record { due = due zero within; later = tt; least = λ other is after. is.inside.since }
 next (suc k) within = record { due = due (suc k) within; later = omega (arith, ints); least = λ other is after. omega (arith, ints, after) }
 

@@ -235,7 +235,7 @@ few_rows =
 
 -- it has few turns, and posts no letter
 pub some_walk : (table : Table) × (script : List Command) × (rows : List Row) × (obeyed : Obeys 1 table script rows) × (job : ℕ) × (at : ℤ) × (later : ℤ)
-    × IsSound table × IsLegal 1 table rows × IsGraceLong table × IsJobDue table job at × IsJobDue table job later × (at <ℤ later)
+    × IsSound table × IsLegal 1 table rows × IsGraceLong table × IsJobDue table 0 job at × IsJobDue table 0 job later × (at <ℤ later)
     × AreTurnsBy at (script_turns obeyed) × (0 < length (script_turns obeyed)) × (length rows ≤ 100) × (obeyed.after.standing.posted ≡ [])
 unfolding obeyed
 some_walk = (

@@ -12,7 +12,7 @@ use Rattle.run_outcome.specs.Whole.{IsWholeRun}
 use Rattle.run_outcome.proofs.WholeLemmas.{script_whole}
 
 pub some_whole : (table : Table) × (script : List Command) × (rows : List Row) × (whole : IsWholeRun 1 table script rows) × (job : ℕ) × (at : ℤ) × (later : ℤ)
-    × IsSound table × IsGraceLong table × IsJobDue table job at × IsJobDue table job later × (at <ℤ later)
+    × IsSound table × IsGraceLong table × IsJobDue table 0 job at × IsJobDue table 0 job later × (at <ℤ later)
     × AreTurnsBy at (script_turns whole.obeyed) × (0 < length (script_turns whole.obeyed))
 some_whole =
     let (table, script, rows, obeyed, job, at, later, sound, legal, long, due, due_later, order, by, turns, few, none) = some_walk in

@@ -144,7 +144,7 @@ module _ (n : ℕ) (table : Table) (rows : List Row) (few : n ≤ 7) (legal : Is
     -- ---- of a job that runs by its period
 
     module _ (by : IsRunByPeriod table job) where
-      pub opens : IsJobOpen table job start.takes.2.row.last start.takes.2.row.cursor now at
+      pub opens : IsJobOpen table 0 job start.takes.2.row.last start.takes.2.row.cursor now at
       opens = may_start_on table job start.takes.2.row at now by start.takes.2.may
 
       found : (row : JobRow) × (slice_get quiet.asks.rows job ≡ Some row)
@@ -229,7 +229,7 @@ module _ (n : ℕ) (table : Table) (rows : List Row) (few : n ≤ 7) (legal : Is
       launched : row.kind ≡ Launch
       launched =
           let backed = held_backed n table rows log row few legal is_log among in
-          let is_in : IsJobIn table row.name.job opens.job opens.zone = subst (λ number. IsJobIn table number opens.job opens.zone) (sym held.of_job) opens.is_in in
+          let is_in : IsJobIn table 0 row.name.job opens.job opens.zone = subst (λ number. IsJobIn table 0 number opens.job opens.zone) (sym held.of_job) opens.is_in in
           let shown : day_number (local_of opens.zone row.now.0) ≡ row.name.at =
           ap (λ instant. day_number (local_of opens.zone instant)) then ∙ sym opens.is_date ∙ sym held.due_at in
           (backed.kind opens.job opens.zone is_in).1 (subst (λ (k : JobKind). IsOnTime k opens.zone table.grace row.name.at row.now.0) (sym opens.kind) shown)

@@ -136,20 +136,20 @@ module _ (n : ℕ) (table : Table) (script : List Command) (rows : List Row) (ob
       (longer at obeyed.obeys.front walk.front by timely.by) timely.right quiet.1.rests walk.two.1)
 
 pub each_ended : (n : ℕ) (table : Table) (script : List Command) (rows : List Row) (log : List Entry) (job : ℕ) (at : ℤ) → n ≤ 7 → IsLegal n table rows → Obeys n table script rows → IsLog n (votes_in rows) log
-    → IsJobDue table job at → HasStart table log job at × (kind : Kind) × HasEnd table log job at kind
+    → IsJobDue table 0 job at → HasStart table log job at × (kind : Kind) × HasEnd table log job at kind
 each_ended n table script rows log job at few legal obeyed is_log due = ended n table rows log job at few legal is_log (at_rest n table script rows obeyed) due
 
-pub each_called : (n : ℕ) (table : Table) (script : List Command) (rows : List Row) (obeyed : Obeys n table script rows) (job : ℕ) (at : ℤ) → n ≤ 7 → IsLegal n table rows → IsJobDue table job at
+pub each_called : (n : ℕ) (table : Table) (script : List Command) (rows : List Row) (obeyed : Obeys n table script rows) (job : ℕ) (at : ℤ) → n ≤ 7 → IsLegal n table rows → IsJobDue table 0 job at
     → AreTurnsBy at (script_turns obeyed) → IsCalledAt (held_in n table rows) job at Launch at
 each_called n table script rows obeyed job at few legal due by =
     let before = due.inside.before in
     called n table rows job at few legal due (passes n table script rows obeyed at due.inside.since (omega (arith, ints, before)) by)
 
-pub each_later : (n : ℕ) (table : Table) (script : List Command) (rows : List Row) (obeyed : Obeys n table script rows) (job : ℕ) (at : ℤ) → n ≤ 7 → IsLegal n table rows → IsJobDue table job at
+pub each_later : (n : ℕ) (table : Table) (script : List Command) (rows : List Row) (obeyed : Obeys n table script rows) (job : ℕ) (at : ℤ) → n ≤ 7 → IsLegal n table rows → IsJobDue table 0 job at
     → AreTurnsBy at (script_turns obeyed) → IsHeld (held_in n table rows) job at Launch
 each_later n table script rows obeyed job at few legal due by =
     called_held (held_in n table rows) job at at Launch (each_called n table script rows obeyed job at few legal due by)
 
-pub each_launched : (n : ℕ) (table : Table) (script : List Command) (rows : List Row) (job : ℕ) (at : ℤ) → n ≤ 7 → IsLegal n table rows → Obeys n table script rows → IsGraceLong table → IsJobDue table job at
+pub each_launched : (n : ℕ) (table : Table) (script : List Command) (rows : List Row) (job : ℕ) (at : ℤ) → n ≤ 7 → IsLegal n table rows → Obeys n table script rows → IsGraceLong table → IsJobDue table 0 job at
     → IsHeld (held_in n table rows) job at Launch
 each_launched n table script rows job at few legal obeyed long due = launched n table rows job at few legal (at_rest n table script rows obeyed) long due

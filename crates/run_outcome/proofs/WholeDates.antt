@@ -39,7 +39,7 @@ each_date n table script rows obeyed job now date few legal by read =
 none_read : (n : ℕ) (table : Table) (rows : List Row) (obeyed : Obeys n table [] rows) (at : ℤ) → AreTurnsBy at (script_turns obeyed)
 none_read n table rows obeyed at = subst (AreTurnsBy at) (sym obeyed.obeys.one.none) (All-nil (λ (r : Row). IsTurnBy at r.turn))
 
-pub due_unscripted : (n : ℕ) (table : Table) (rows : List Row) (job : ℕ) (at : ℤ) → n ≤ 7 → IsLegal n table rows → Obeys n table [] rows → IsJobDue table job at
+pub due_unscripted : (n : ℕ) (table : Table) (rows : List Row) (job : ℕ) (at : ℤ) → n ≤ 7 → IsLegal n table rows → Obeys n table [] rows → IsJobDue table 0 job at
     → IsCalledAt (held_in n table rows) job at Launch at
 due_unscripted n table rows job at few legal obeyed due = each_called n table [] rows obeyed job at few legal due (none_read n table rows obeyed at)
 
@@ -60,7 +60,7 @@ date_unscripted n table rows job now date few legal obeyed by =
     ]
 
 -- the job of a row runs by its period, or is due at an instant
-pub by_period_or_not : (table : Table) (rows : List JobRow) (job : ℕ) (at now : ℤ) → TakesStart table rows job at now → IsJobDue table job at ⊎ IsRunByPeriod table job
+pub by_period_or_not : (table : Table) (rows : List JobRow) (job : ℕ) (at now : ℤ) → TakesStart table rows job at now → IsJobDue table 0 job at ⊎ IsRunByPeriod table job
 by_period_or_not table rows job at now takes = elim takes.may [
   | inl next ↦ inl next.0.due
   | inr opens ↦ inr (opens_by_period table job takes.row.last takes.row.cursor now at opens)

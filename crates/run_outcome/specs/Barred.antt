@@ -18,7 +18,7 @@ use Rattle.launch_safety.specs.Fitting.{held_in}
 pub record ShowedLater (table : Table) (job : ℕ) (now date : ℤ) : Type 0 where
   pub spec : Job
   pub zone : TimeZone
-  pub is_in : IsJobIn table job spec zone
+  pub is_in : IsJobIn table 0 job spec zone
   pub then : ℤ
   pub sooner : then <ℤ now
   pub later : date <ℤ day_number (local_of zone then)

@@ -38,15 +38,15 @@ IgnoresNone table log =
 -- in the log a start of each due instant takes effect, and an end
 abbrev pub EndsEachDue : Table → List Entry → Type 0
 EndsEachDue table log =
-    (job : ℕ) (at : ℤ) → IsJobDue table job at → HasStart table log job at × (kind : Kind) × HasEnd table log job at kind
+    (job : ℕ) (at : ℤ) → IsJobDue table 0 job at → HasStart table log job at × (kind : Kind) × HasEnd table log job at kind
 
 -- each due instant is held as launched
 abbrev pub HoldsEachDue : Table → List SchedRow → Type 0
-HoldsEachDue table held = (job : ℕ) (at : ℤ) → IsJobDue table job at → IsHeld held job at Launch
+HoldsEachDue table held = (job : ℕ) (at : ℤ) → IsJobDue table 0 job at → IsHeld held job at Launch
 
 -- each due instant that no clock reading of the turns is later than is held as launched, and was called at that very instant
 abbrev pub CallsEachAfter : List Row → Table → List SchedRow → Type 0
-CallsEachAfter turns table held = (job : ℕ) (at : ℤ) → IsJobDue table job at → AreTurnsBy at turns → IsCalledAt held job at Launch at
+CallsEachAfter turns table held = (job : ℕ) (at : ℤ) → IsJobDue table 0 job at → AreTurnsBy at turns → IsCalledAt held job at Launch at
 
 -- **The rows are a whole run of the script**: a legal book that obeys it, on which the replicas agree and which fits after each turn,
 -- and which has nothing left to do at the window's last minute.

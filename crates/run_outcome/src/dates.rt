@@ -37,7 +37,7 @@ pub fn a_barred_date_was_passed()
 /// launched on that date and called at that instant. And nothing else is held.
 pub fn a_walk_without_a_script_launches_each_due_instant()
     ensures each { (members : ℕ) (table : Table) (rows : List Row) (job : ℕ) (at : ℤ)
-        → members ≤ 7 → IsLegal members table rows → Obeys members table [] rows → IsJobDue table job at
+        → members ≤ 7 → IsLegal members table rows → Obeys members table [] rows → IsJobDue table 0 job at
         → IsCalledAt (held_in members table rows) job at Launch at }
     ensures each_date { (members : ℕ) (table : Table) (rows : List Row) (job : ℕ) (now date : ℤ)
         → members ≤ 7 → IsLegal members table rows → Obeys members table [] rows → OpensBy table (held_in members table rows) job now date

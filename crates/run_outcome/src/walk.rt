@@ -22,15 +22,15 @@ ghost use Rattle.launch_safety.specs.Readings.{AreTurnsBy};
 pub fn a_walk_launches_each_due_instant()
     ensures ended { (members : ℕ) (table : Table) (script : List Command) (rows : List Row) (log : List Entry) (job : ℕ) (at : ℤ)
         → members ≤ 7 → IsLegal members table rows → Obeys members table script rows → IsLog members (votes_in rows) log
-        → IsJobDue table job at → HasStart table log job at × (kind : Kind) × HasEnd table log job at kind }
+        → IsJobDue table 0 job at → HasStart table log job at × (kind : Kind) × HasEnd table log job at kind }
     ensures later { (members : ℕ) (table : Table) (script : List Command) (rows : List Row) (obeyed : Obeys members table script rows) (job : ℕ) (at : ℤ)
-        → members ≤ 7 → IsLegal members table rows → IsJobDue table job at → AreTurnsBy at (script_turns obeyed)
+        → members ≤ 7 → IsLegal members table rows → IsJobDue table 0 job at → AreTurnsBy at (script_turns obeyed)
         → IsHeld (held_in members table rows) job at Launch }
     ensures at_once { (members : ℕ) (table : Table) (script : List Command) (rows : List Row) (obeyed : Obeys members table script rows) (job : ℕ) (at : ℤ)
-        → members ≤ 7 → IsLegal members table rows → IsJobDue table job at → AreTurnsBy at (script_turns obeyed)
+        → members ≤ 7 → IsLegal members table rows → IsJobDue table 0 job at → AreTurnsBy at (script_turns obeyed)
         → IsCalledAt (held_in members table rows) job at Launch at }
     ensures all { (members : ℕ) (table : Table) (script : List Command) (rows : List Row) (job : ℕ) (at : ℤ)
-        → members ≤ 7 → IsLegal members table rows → Obeys members table script rows → IsGraceLong table → IsJobDue table job at
+        → members ≤ 7 → IsLegal members table rows → Obeys members table script rows → IsGraceLong table → IsJobDue table 0 job at
         → IsHeld (held_in members table rows) job at Launch }
 {}
 
@@ -50,6 +50,6 @@ pub fn the_latest_reading_bounds_the_script()
 /// instants that this reading has not passed; grace lasts as long as the window.
 pub fn a_walk_may_launch()
     ensures { (table : Table) × (script : List Command) × (rows : List Row) × (obeyed : Obeys 1 table script rows) × (job : ℕ) × (at : ℤ) × (later : ℤ)
-        × IsSound table × IsLegal 1 table rows × IsGraceLong table × IsJobDue table job at × IsJobDue table job later × (at <ℤ later)
+        × IsSound table × IsLegal 1 table rows × IsGraceLong table × IsJobDue table 0 job at × IsJobDue table 0 job later × (at <ℤ later)
         × AreTurnsBy at (script_turns obeyed) × (0 < length (script_turns obeyed)) }
 {}

@@ -74,16 +74,16 @@ pub fn what_a_whole_run_says()
         → IsWholeRun members table script rows → IsLog members (votes_in rows) log → IsClerkOf table log launch
         → NoCall table launch (table.window.until.0 -ℤ pos 1) × NoStart table launch (table.window.until.0 -ℤ pos 1) }
     ensures ended { (members : ℕ) (table : Table) (script : List Command) (rows : List Row) (log : List Entry) (job : ℕ) (at : ℤ) → members ≤ 7
-        → IsWholeRun members table script rows → IsLog members (votes_in rows) log → IsJobDue table job at
+        → IsWholeRun members table script rows → IsLog members (votes_in rows) log → IsJobDue table 0 job at
         → HasStart table log job at × (kind : Kind) × HasEnd table log job at kind }
     ensures later { (members : ℕ) (table : Table) (script : List Command) (rows : List Row) (whole : IsWholeRun members table script rows) (job : ℕ)
         (at : ℤ)
-        → IsJobDue table job at → AreTurnsBy at (script_turns whole.obeyed) → IsHeld (held_in members table rows) job at Launch }
+        → IsJobDue table 0 job at → AreTurnsBy at (script_turns whole.obeyed) → IsHeld (held_in members table rows) job at Launch }
     ensures at_once { (members : ℕ) (table : Table) (script : List Command) (rows : List Row) (whole : IsWholeRun members table script rows)
         (job : ℕ) (at : ℤ)
-        → IsJobDue table job at → AreTurnsBy at (script_turns whole.obeyed) → IsCalledAt (held_in members table rows) job at Launch at }
+        → IsJobDue table 0 job at → AreTurnsBy at (script_turns whole.obeyed) → IsCalledAt (held_in members table rows) job at Launch at }
     ensures all { (members : ℕ) (table : Table) (script : List Command) (rows : List Row) (job : ℕ) (at : ℤ)
-        → IsWholeRun members table script rows → IsGraceLong table → IsJobDue table job at → IsHeld (held_in members table rows) job at Launch }
+        → IsWholeRun members table script rows → IsGraceLong table → IsJobDue table 0 job at → IsHeld (held_in members table rows) job at Launch }
 {}
 
 /// There is a whole run: one replica's, of a script with a turn, of a job with two due instants that no clock of the script's turns has
@@ -91,6 +91,6 @@ pub fn what_a_whole_run_says()
 pub fn a_whole_run_may_be()
     ensures { (table : Table) × (script : List Command) × (rows : List Row) × (whole : IsWholeRun 1 table script rows) × (job : ℕ)
         × (at : ℤ) × (later : ℤ)
-        × IsSound table × IsGraceLong table × IsJobDue table job at × IsJobDue table job later × (at <ℤ later)
+        × IsSound table × IsGraceLong table × IsJobDue table 0 job at × IsJobDue table 0 job later × (at <ℤ later)
         × AreTurnsBy at (script_turns whole.obeyed) × (0 < length (script_turns whole.obeyed)) }
 {}

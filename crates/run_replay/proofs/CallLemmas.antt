@@ -119,7 +119,7 @@ module _ (table : Table) (rows : List Row) (old middle : Replay) (situation : Si
         let legal = legal_push old.book.members table rows did.row is.behind.legal did.may in
         answer_named table rows old.book who now made did.row made.answer legal
         (λ found waits. All-contains (λ (held : SchedRow). IsNameIn table held.name) (held_in old.book.members table (rows ++ did.row ∷ [])) found
-        (named table old.book.members (rows ++ did.row ∷ []) is.few legal) (waiting_held old.book.members table (rows ++ did.row ∷ []) who found is.few legal waits))
+        (named table old.book.members (rows ++ did.row ∷ []) is.few is.sound legal) (waiting_held old.book.members table (rows ++ did.row ∷ []) who found is.few legal waits))
         did.is.turn_is refl
 
     -- a line that tells the fate of the call tells its answer

@@ -3,6 +3,7 @@ use Rattle.std.proofs.Common.{◌≡◌, ℕ, ◌<◌, zero, suc, pos, true, Non
 use Rattle.paxos_base.specs.Durable.{after_delta}
 use Rattle.paxos_base.specs.Members.{with_member}
 use Rattle.paxos_base.specs.Vote.{votes_from}
+use Rattle.due_set.proofs.SoundLemmas.{no_later}
 use Rattle.due_set.specs.Table.{IsSound, Table}
 use Rattle.launch_machine.specs.Clerk.{first_rows}
 use Rattle.launch_machine.specs.declared.machine.Intent.TheVariants as intent
@@ -26,7 +27,7 @@ use Rattle.settling.proofs.AloneBookLemmas.{campaign_is_won, campaign_leaves_no_
 use Rattle.history.proofs.TableRows.{rests_without_jobs}
 
 abbrev quiet_table : Table
-quiet_table = record { window = record { from = record { 0 = pos 525_600 }; until = record { 0 = pos 525_601 } }; grace = 0; zones = []; jobs = [] }
+quiet_table = record { window = record { from = record { 0 = pos 525_600 }; until = record { 0 = pos 525_601 } }; grace = 0; zones = []; jobs = []; later = [] }
 
 quiet_is_sound : IsSound quiet_table
 quiet_is_sound = record {
@@ -36,6 +37,8 @@ quiet_is_sound = record {
   zone_numbers = λ k d within. absurd (omega (arith, within));
   few = grind arith;
   distinct = λ i j d before within. absurd (omega (arith, within));
+  kinds = λ k d within. absurd (omega (arith, within));
+  versions = no_later quiet_table;
 }
 
 abbrev stands_for : Row

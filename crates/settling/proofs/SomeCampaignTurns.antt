@@ -7,6 +7,7 @@ use Rattle.paxos_letter.specs.Spelling.{spelling}
 use Rattle.paxos_letter.specs.declared.packet.Packet.{Packet}
 use Rattle.paxos_letter.specs.declared.packet.Packet.TheVariants as packet
 use Rattle.paxos_letter.proofs.LetterLemmas.{letters_have_packets}
+use Rattle.due_set.proofs.SoundLemmas.{no_later}
 use Rattle.due_set.specs.Table.{IsSound, Table}
 use Rattle.launch_machine.specs.Clerk.{first_rows, table_size}
 use Rattle.launch_machine.specs.Answers.{IsIntent}
@@ -30,7 +31,7 @@ use Rattle.history.proofs.TableRows.{rests_without_jobs}
 -- ---- the table
 
 abbrev pub no_job : Table
-no_job = record { window = record { from = record { 0 = pos 525_600 }; until = record { 0 = pos 525_601 } }; grace = 0; zones = []; jobs = [] }
+no_job = record { window = record { from = record { 0 = pos 525_600 }; until = record { 0 = pos 525_601 } }; grace = 0; zones = []; jobs = []; later = [] }
 
 pub no_job_is_sound : IsSound no_job
 no_job_is_sound = record {
@@ -40,6 +41,8 @@ no_job_is_sound = record {
   zone_numbers = λ k d within. absurd (omega (arith, within));
   few = grind arith;
   distinct = λ i j d before within. absurd (omega (arith, within));
+  kinds = λ k d within. absurd (omega (arith, within));
+  versions = no_later no_job;
 }
 
 pub in_window : IsInWindow no_job.window (pos 525_600)

@@ -8,6 +8,7 @@ use Rattle.paxos_letter.specs.declared.packet.Packet.TheVariants as packet
 use Rattle.paxos_base.specs.Vote.{votes_from}
 use Rattle.paxos_base.specs.declared.durable.Durable.{Durable}
 use Rattle.cluster_sched.specs.declared.row.SchedRow.{SchedRow}
+use Rattle.due_set.proofs.SoundLemmas.{no_later}
 use Rattle.due_set.specs.Table.{IsSound, Table}
 use Rattle.launch_machine.specs.Answers.{IsIntent}
 use Rattle.launch_machine.specs.declared.machine.Intent.TheVariants.{Rest}
@@ -31,7 +32,7 @@ use Rattle.history.proofs.TableRows.{rests_without_jobs}
 -- ---- the table
 
 abbrev pub bare : Table
-bare = record { window = record { from = record { 0 = pos 525_600 }; until = record { 0 = pos 525_601 } }; grace = 0; zones = []; jobs = [] }
+bare = record { window = record { from = record { 0 = pos 525_600 }; until = record { 0 = pos 525_601 } }; grace = 0; zones = []; jobs = []; later = [] }
 
 pub bare_sound : IsSound bare
 bare_sound = record {
@@ -41,6 +42,8 @@ bare_sound = record {
   zone_numbers = λ k d within. absurd (omega (arith, within));
   few = grind arith;
   distinct = λ i j d before within. absurd (omega (arith, within));
+  kinds = λ k d within. absurd (omega (arith, within));
+  versions = no_later bare;
 }
 
 abbrev pub now : ℤ

@@ -1,6 +1,7 @@
 -- A legal book that begins with a round: two replicas over a table without jobs tick, and nothing else happens.
 use Rattle.std.proofs.Common.{◌≡◌, ℕ, ◌<◌, zero, suc, pos, true, None, List, [], ◌∷◌, ℤ, refl, arith, lit<}
 use Rattle.launch_machine.specs.Clerk.{first_rows, table_size}
+use Rattle.due_set.proofs.SoundLemmas.{no_later}
 use Rattle.due_set.specs.Table.{IsSound, Table}
 use Rattle.launch_machine.specs.declared.machine.Intent.TheVariants as intent
 use Rattle.step_spec.specs.Act.{after_act}
@@ -21,7 +22,7 @@ use Rattle.settling.specs.Stands.{StandsForCluster}
 use Rattle.history.proofs.TableRows.{rests_without_jobs}
 
 abbrev quiet_table : Table
-quiet_table = record { window = record { from = record { 0 = pos 525_600 }; until = record { 0 = pos 525_601 } }; grace = 0; zones = []; jobs = [] }
+quiet_table = record { window = record { from = record { 0 = pos 525_600 }; until = record { 0 = pos 525_601 } }; grace = 0; zones = []; jobs = []; later = [] }
 
 quiet_is_sound : IsSound quiet_table
 quiet_is_sound = record {
@@ -31,6 +32,8 @@ quiet_is_sound = record {
   zone_numbers = λ k d within. absurd (omega (arith, within));
   few = grind arith;
   distinct = λ i j d before within. absurd (omega (arith, within));
+  kinds = λ k d within. absurd (omega (arith, within));
+  versions = no_later quiet_table;
 }
 
 abbrev tick_of : ℕ → Row

@@ -1,6 +1,6 @@
 //! The tables of jobs: an hour with no job, one or two.
-ghost use Rattle.std.specs.Prelude.{◌≡◌, IfOk};
-ghost use Rattle.due_set.specs.Table.{IsAnacron};
+ghost use Rattle.std.specs.Prelude.{◌≡◌, IfOk, false};
+ghost use Rattle.due_set.specs.Table.{IsKindOfName, is_period_name};
 
 use cron_fields::{FieldKind, FieldSet, Fields, HashSeed, read_field};
 use cron_io::OutOfMemory;
@@ -45,9 +45,10 @@ fn each_third_of_an_hour() -> Option<Fields> {
 
 // A job of that name. Its fields can be read.
 fn job(alloc: Global, name: &str) -> Result<JobSpec, OutOfMemory>
+    requires plain { is_period_name name.now ≡ false }
     ensures name { IfOk result (λ job. job.name ≡ name.now) }
     ensures zone { IfOk result (λ job. job.zone ≡ 0) }
-    ensures plain { IfOk result (λ job. IsAnacron job.kind → ⊥) }
+    ensures kind { IfOk result (λ job. IsKindOfName job.name job.kind) }
 {
     let kind = match each_third_of_an_hour() {
         Some(fields) => JobKind::Crontab { fields },

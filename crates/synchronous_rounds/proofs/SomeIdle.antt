@@ -8,6 +8,7 @@ use Rattle.paxos_base.specs.declared.entry.Entry.TheVariants.{Noop}
 use Rattle.paxos_base.specs.declared.entry.Vote.{Vote}
 use Rattle.paxos_base.specs.declared.rows.JobRow.{JobRow}
 use Rattle.cluster_sched.specs.declared.row.SchedRow.{SchedRow}
+use Rattle.due_set.proofs.SoundLemmas.{no_later}
 use Rattle.due_set.specs.Table.{IsBuiltFor, IsSound, Table}
 use Rattle.launch_machine.specs.Answers.{IsIntent}
 use Rattle.launch_machine.specs.Clerk.{MayStart, first_rows}
@@ -30,7 +31,7 @@ use Rattle.step_spec.proofs.ListLemmas.{nothing_found}
 -- ---- the table
 
 abbrev bare : Table
-bare = record { window = busy.window; grace = 0; zones = []; jobs = [] }
+bare = record { window = busy.window; grace = 0; zones = []; jobs = []; later = [] }
 
 bare_sound : IsSound bare
 bare_sound = record {
@@ -40,6 +41,8 @@ bare_sound = record {
   zone_numbers = All-nil (λ job. job.zone < 0);
   few = omega arith;
   distinct = λ i j d before within. absurd (omega (arith, before, within));
+  kinds = λ k d within. absurd (omega (arith, within));
+  versions = no_later bare;
 }
 
 -- its launch table asks for nothing at any instant

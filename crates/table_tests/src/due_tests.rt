@@ -18,10 +18,10 @@ fn assert_due(rt: &impl Abort, table: &JobTable, job: u32, stamps: &str)
 {
     let mut last = None;
     for stamp in stamps.split_whitespace() {
-        last = table.next_due(job, last);
+        last = table.next_due(0, job, last);
         assert_eq!(rt; last, read_stamp(stamp), "{stamp}");
     }
-    assert_eq!(rt; table.next_due(job, last), None);
+    assert_eq!(rt; table.next_due(0, job, last), None);
 }
 
 // The table has these jobs in order, a line each: its name, and the instants at which it is due.

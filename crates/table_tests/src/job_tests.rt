@@ -48,8 +48,8 @@ fn show_jobs(alloc: Global, table: &JobTable) -> Result<String, Fail> {
     let mut shown = String::new(alloc);
     for job in 0..table.jobs() {
         write!(shown, "{} ", table.name(job))?;
-        match table.kind(job) {
-            JobKind::Crontab { .. } => write!(shown, "{} times\n", table.count_due(job))?,
+        match table.kind(0, job) {
+            JobKind::Crontab { .. } => write!(shown, "{} times\n", table.count_due(0, job))?,
             JobKind::Never => shown.push_str("never\n")?,
             JobKind::Anacron {
                 period,

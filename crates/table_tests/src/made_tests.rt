@@ -41,7 +41,7 @@ fn the_lines_of_a_made_text(rt: HostRuntime) -> Result<(), Fail> {
 fn total_due(table: &JobTable) -> u32 {
     let mut total: u32 = 0;
     for job in 0..table.jobs() {
-        total = total.saturating_add(table.count_due(job));
+        total = total.saturating_add(table.count_due(0, job));
     }
     total
 }

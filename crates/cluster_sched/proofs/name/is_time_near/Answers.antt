@@ -1,6 +1,6 @@
 use Rattle.std.proofs.Common.{rules, ◌∙◌, pos, ◌+ℤ◌, ◌-ℤ◌, ◌≤ℤ◌, ◌<ℤ◌, arith, sym, true≢false, w64, FitsSigned}
 use Rattle.std.proofs.lemmas.Int.{ints, to_z-of_z}
-use Rattle.cluster_sched.specs.Names.{job_kind}
+use Rattle.due_set.specs.Table.{is_by_period}
 use Rattle.cluster_sched.proofs.NameLemmas.{HasDays-computed, near_days, not_near_days, told_date}
 use Rattle.cluster_sched.proofs.name.is_time_near.Goals as goal
 
@@ -29,8 +29,8 @@ returns-then-first-name c =
     let until_fits : FitsSigned w64 (last +ℤ pos 2) = omega (arith, ints, days.last_in) in
     let test = simp to_z-of_z at c.if-first-name.true in
     let since : (first -ℤ pos 2) ≤ℤ at = grind (arith, ints) in
-    let says = told_date c.args.table.now c.args.name.job c.is_anacron.result at c.is_anacron.ensures c.if-is_anacron.true in
-    let near = near_days c.window-window.result (job_kind c.args.table.now c.args.name.job) at first last days says since in
+    let says = told_date c.args.table.now c.args.name.job c.is_anacron.result at c.is_anacron.ensures.by_name c.if-is_anacron.true in
+    let near = near_days c.window-window.result (is_by_period c.args.table.now c.args.name.job) at first last days says since in
     simp to_z-of_z (rw (← c.window-window.ensures.window) (λ until. near.0 (grind (arith, ints)), λ is. let until = near.1 is in grind (arith, ints)))
 
 pub returns-else-first-name : goal.returns-else-first-name
@@ -43,6 +43,6 @@ returns-else-first-name c =
     let since_fits : FitsSigned w64 (first -ℤ pos 2) = omega (arith, ints, days.first_in) in
     let test = simp to_z-of_z at c.if-first-name.false in
     let before : at <ℤ (first -ℤ pos 2) = grind (arith, ints) in
-    let says = told_date c.args.table.now c.args.name.job c.is_anacron.result at c.is_anacron.ensures c.if-is_anacron.true in
-    let far = not_near_days c.window-window.result (job_kind c.args.table.now c.args.name.job) at first c.day_of-last.result days says before in
+    let says = told_date c.args.table.now c.args.name.job c.is_anacron.result at c.is_anacron.ensures.by_name c.if-is_anacron.true in
+    let far = not_near_days c.window-window.result (is_by_period c.args.table.now c.args.name.job) at first c.day_of-last.result days says before in
     simp to_z-of_z (rw (← c.window-window.ensures.window) (λ t. absurd (true≢false (sym t ∙ test)), λ is. absurd (far is)))

@@ -1,5 +1,5 @@
 use Rattle.std.proofs.Common.{rules, ◌≡◌, ◌<◌, ◌∙◌, length, sym, arith}
-use Rattle.cluster_sched.specs.Names.{job_name}
+use Rattle.due_set.specs.Table.{job_name}
 use Rattle.cluster_sched.proofs.NameLemmas.{job_name-injective}
 use Rattle.cluster_sched.proofs.name.job_named.Goals as goal
 

@@ -1,5 +1,5 @@
 use Rattle.std.proofs.Common.{◌≢◌, ◌<◌, ℕ}
-use Rattle.cluster_sched.specs.Names.{job_name}
+use Rattle.due_set.specs.Table.{job_name}
 use Rattle.cluster_sched.proofs.name.job_named.Given as goal
 
 abbrev pub invariant-loop-job : goal.invariant-loop-job

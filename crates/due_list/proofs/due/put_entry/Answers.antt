@@ -8,7 +8,7 @@ use Rattle.due_list.proofs.due.put_entry.Goals as goal
 
 pub put_dues-requires : goal.put_dues-requires
 put_dues-requires c =
-    subst (λ (l : List Minute). All (λ at. IsJobDue c.args.table.now c.args.job at.0) l) (sym c.deref.ensures.value)
+    subst (λ (l : List Minute). All (λ at. IsJobDue c.args.table.now 0 c.args.job at.0) l) (sym c.deref.ensures.value)
     (each_due c.args.table.now c.args.job c.in_ok-dues.dues.items c.in_ok-dues.ensures)
 
 pub returns : goal.returns

@@ -1,7 +1,8 @@
 use Rattle.std.proofs.Common.{◌≡◌, ◌+◌, length, map, ap, sym, subst, ◌∙◌, arith}
-use Rattle.due_set.specs.Table.{job_of, AreZonesBelow}
+use Rattle.due_set.specs.Table.{job_of, AreKindsOfNames, AreZonesBelow}
 use Rattle.run_text.specs.Run.{run_of}
 use Rattle.run_text.proofs.SoundLemmas.{sound_run}
+use Rattle.job_table.proofs.KindLemmas.{kinds_of_run}
 use Rattle.job_table.proofs.TableLemmas.{zones_below}
 use Rattle.job_table.proofs.VerdictLemmas.{table_with, too_many_due}
 use Rattle.job_table.proofs.ZoneLemmas.{zones_count}
@@ -21,6 +22,11 @@ assemble-table-requires-clause-zone_numbers c =
     let count : 1 + length run.zones ≡ length c.in_ok-zones.zones.items = zones_count run.window run.zones c.in_ok-zones.zones.items c.in_ok-zones.ensures.zones in
     subst (λ n. AreZonesBelow n (map job_of c.in_ok-specs.specs.items)) count
     (subst (AreZonesBelow (1 + length run.zones)) (sym (c.in_ok-specs.ensures.specs ∙ marks.collected.are)) below)
+
+pub assemble-table-requires-clause-kinds : goal.assemble-table-requires-clause-kinds
+assemble-table-requires-clause-kinds c =
+    let marks = c.in_ok-jobs.ensures.jobs in
+    subst AreKindsOfNames (sym (c.in_ok-specs.ensures.specs ∙ marks.collected.are)) (kinds_of_run c.requires.text (run_of c.args.run.now) marks.marks c.requires.says marks.are)
 
 pub returns-clause-refused : goal.returns-clause-refused
 returns-clause-refused c =

@@ -15,7 +15,7 @@ returns-in_err-write_text g c =
 pub write_parts-requires-clause-told : goal.write_parts-requires-clause-told
 write_parts-requires-clause-told g c =
     subst (λ (turns : List Turn). All (CanBeTold c.args.table.now) turns) (sym c.turns.ensures)
-    (told_turns c.args.table.now c.requires.legal.0 c.args.book.now c.requires.few c.requires.sound.limits c.requires.legal.1)
+    (told_turns c.args.table.now c.requires.legal.0 c.args.book.now c.requires.few c.requires.sound c.requires.legal.1)
 
 pub returns-in_err-write_parts : goal.returns-in_err-write_parts
 returns-in_err-write_parts g c =

@@ -10,14 +10,14 @@ use Rattle.launch_machine.proofs.choice.call_at.Goals as goal
 pub returns-else-may_call-clause-none : goal.returns-else-may_call-clause-none
 returns-else-may_call-clause-none c =
     let at_fits : FitsSigned w64 c.in_ok-at.at = omega (arith, ints) in
-    let tells : (j : Job) (zone : TimeZone) → IsJobIn c.args.table.now c.args.job j zone → (IsTrue c.may_call.result ↔ HasCome j.kind zone c.in_ok-at.at c.args.now.0) =
+    let tells : (j : Job) (zone : TimeZone) → IsJobIn c.args.table.now 0 c.args.job j zone → (IsTrue c.may_call.result ↔ HasCome j.kind zone c.in_ok-at.at c.args.now.0) =
     simp to_z-of_z at c.may_call.ensures.come in
     no_call c.args.table.now c.args.rows.now c.args.job c.in_ok-at.at c.args.now.0 (fresh_row 0) c.may_call.result (omega arith) c.in_ok-at.was tells c.if-may_call.false
 
 pub returns-then-may_call-clause-found : goal.returns-then-may_call-clause-found
 returns-then-may_call-clause-found c =
     let at_fits : FitsSigned w64 c.in_ok-at.at = omega (arith, ints) in
-    let tells : (j : Job) (zone : TimeZone) → IsJobIn c.args.table.now c.args.job j zone → (IsTrue c.may_call.result ↔ HasCome j.kind zone c.in_ok-at.at c.args.now.0) =
+    let tells : (j : Job) (zone : TimeZone) → IsJobIn c.args.table.now 0 c.args.job j zone → (IsTrue c.may_call.result ↔ HasCome j.kind zone c.in_ok-at.at c.args.now.0) =
     simp to_z-of_z at c.may_call.ensures.come in
     simp to_z-of_z
     (one_call c.args.table.now c.args.rows.now c.args.job c.in_ok-at.at c.in_ok-row.field-0 c.args.now.0 (fresh_row 0) c.may_call.result (omega arith)

@@ -1,12 +1,13 @@
+use Rattle.std.proofs.Common.{◌∙◌, sym}
 use Rattle.launch_machine.proofs.MachineLemmas.{first_by_due, first_by_opening}
 use Rattle.launch_machine.proofs.next.first_start_of.Goals as goal
 
 pub returns-then-is_anacron : goal.returns-then-is_anacron
 returns-then-is_anacron c =
-    first_by_opening c.args.table.now c.args.job c.args.row c.first_opening.result (c.is_anacron.ensures.0 c.if-is_anacron.true)
-    c.first_opening.ensures.found c.first_opening.ensures.none
+    first_by_opening c.args.table.now c.args.job c.args.row c.first_opening.result c.is_anacron.ensures.sound
+    (sym c.is_anacron.ensures.by_name ∙ c.if-is_anacron.true) c.first_opening.ensures.found c.first_opening.ensures.none
 
 pub returns-else-is_anacron : goal.returns-else-is_anacron
 returns-else-is_anacron c =
-    first_by_due c.args.table.now c.args.job c.args.row c.next_due.result (λ by. let is = c.is_anacron.ensures.1 by in let not = c.if-is_anacron.false in cc (is, not))
-    c.next_due.ensures.found c.next_due.ensures.none
+    first_by_due c.args.table.now c.args.job c.args.row c.next_due.result c.is_anacron.ensures.sound
+    (sym c.is_anacron.ensures.by_name ∙ c.if-is_anacron.false) c.next_due.ensures.found c.next_due.ensures.none

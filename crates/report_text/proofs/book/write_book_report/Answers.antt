@@ -11,7 +11,7 @@ write_report-requires g c =
     let held = c.held.ensures.held ∙ ap (λ (holdings : Holdings). holdings.held) c.ledger.ensures in
     let few = subst (λ n. n ≤ 7) (sym c.requires.members) c.requires.few in
     subst (λ (rows : List SchedRow). All (λ (row : SchedRow). IsNameIn c.args.table.now row.name) rows) (sym held)
-    (named_at_rest c.args.table.now c.requires.legal.0 c.args.book.now few c.requires.legal.1 c.requires.rest)
+    (named_at_rest c.args.table.now c.requires.legal.0 c.args.book.now few c.window.ensures.sound c.requires.legal.1 c.requires.rest)
 
 pub returns : goal.returns
 returns g c =

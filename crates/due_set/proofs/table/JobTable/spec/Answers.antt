@@ -1,12 +1,12 @@
-use Rattle.std.proofs.Common.{◌<◌, length, map, sym, subst}
-use Rattle.std.proofs.lemmas.List.{length-map}
-use Rattle.due_set.specs.Table.{Table, job_of}
+use Rattle.std.proofs.Common.{List, length, map, sym, subst, arith}
+use Rattle.due_set.specs.Table.{AreZonesBelow, Job, job_of}
+use Rattle.due_set.proofs.SoundLemmas.{jobs_of_version}
 use Rattle.due_set.proofs.TableLemmas.{spec_zone_below}
 use Rattle.due_set.proofs.table.JobTable.spec.Goals as goal
 
 pub returns-clause-zone : goal.returns-clause-zone
 returns-clause-zone c =
-    let within : c.args.job < length (map job_of c.self.inside.jobs.items) =
-    subst (λ (t : Table). c.args.job < length t.jobs) (sym c.self.view_is) c.requires in
-    subst (λ (t : Table). c.index.result.now.zone < length t.zones) c.self.view_is
-    (spec_zone_below (length c.self.inside.zones.items) c.self.inside.jobs.items c.args.job c.index.result.now (simp length-map at within) c.index.ensures c.self.invariant.zone_numbers)
+    let has = jobs_of_version c.args.self.now c.args.version c.jobs_in.ensures.sound c.requires.version in
+    let below : AreZonesBelow (length c.args.self.now.zones) (map job_of c.jobs_in.result.now) =
+    subst (λ (jobs : List Job). AreZonesBelow (length c.args.self.now.zones) jobs) (sym c.jobs_in.ensures.jobs) has.zone_numbers in
+    spec_zone_below (length c.args.self.now.zones) c.jobs_in.result.now c.args.job c.index-jobs_in-job.result (omega (arith, c.requires.job, c.jobs_in.ensures.count)) c.index-jobs_in-job.is below

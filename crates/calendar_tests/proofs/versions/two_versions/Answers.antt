@@ -1,0 +1,54 @@
+use Rattle.std.proofs.Common.{◌≡◌, List, [], ◌∷◌, ◌++◌, length, map, refl, ap, ◌∙◌, sym, subst}
+use Rattle.due_set.specs.Table.{BeginsWithWindow, IsBuiltFor, IsSound, Table, table_of_versions, version_count, version_of}
+use Rattle.calendar_tests.specs.Versions.{hour}
+use Rattle.calendar_tests.proofs.VersionLemmas.{sound, two_are}
+use Rattle.calendar_tests.proofs.versions.two_versions.Goals as goal
+
+pub assemble_versions-requires-clause-sound : goal.assemble_versions-requires-clause-sound
+assemble_versions-requires-clause-sound c =
+    let zone = c.in_ok-build.field-0 in
+    let a = c.in_ok-version.field-0 in
+    let b = c.in_ok-version-2.field-0 in
+    let zones : c.push.new.self.items ≡ zone ∷ [] = c.in_ok-push.ensures.items ∙ ap (λ l. l ++ zone ∷ []) c.new-zones.ensures.items in
+    let items : c.push-3.new.self.items ≡ a ∷ b ∷ [] =
+    c.in_ok-push-3.ensures.items ∙ ap (λ l. l ++ b ∷ []) (c.in_ok-push-2.ensures.items ∙ ap (λ l. l ++ a ∷ []) c.new-versions.ensures.items) in
+    let found = two_are c.push-3.new.self.items a b items c.in_ok-version.ensures.from c.in_ok-version-2.ensures.from c.in_ok-version.ensures.entry c.in_ok-version-2.ensures.entry in
+    let built : IsBuiltFor hour zone = rw c.in_ok-build.ensures.built (record { from = refl; until = refl; read = c.in_ok-build.ensures.read }) in
+    subst (λ zs. IsSound (table_of_versions hour 5 zs (map version_of c.push-3.new.self.items))) (sym zones)
+    (subst (λ vs. IsSound (table_of_versions hour 5 (zone ∷ []) vs)) (sym found.2) (sound zone found.0 found.1 built))
+
+pub assemble_versions-requires-clause-first : goal.assemble_versions-requires-clause-first
+assemble_versions-requires-clause-first c =
+    let a = c.in_ok-version.field-0 in
+    let b = c.in_ok-version-2.field-0 in
+    let items : c.push-3.new.self.items ≡ a ∷ b ∷ [] =
+    c.in_ok-push-3.ensures.items ∙ ap (λ l. l ++ b ∷ []) (c.in_ok-push-2.ensures.items ∙ ap (λ l. l ++ a ∷ []) c.new-versions.ensures.items) in
+    let found = two_are c.push-3.new.self.items a b items c.in_ok-version.ensures.from c.in_ok-version-2.ensures.from c.in_ok-version.ensures.entry c.in_ok-version-2.ensures.entry in
+    subst (BeginsWithWindow hour) (sym found.2) refl
+
+pub returns-clause-versions : goal.returns-clause-versions
+returns-clause-versions c =
+    let a = c.in_ok-version.field-0 in
+    let b = c.in_ok-version-2.field-0 in
+    let items : c.push-3.new.self.items ≡ a ∷ b ∷ [] =
+    c.in_ok-push-3.ensures.items ∙ ap (λ l. l ++ b ∷ []) (c.in_ok-push-2.ensures.items ∙ ap (λ l. l ++ a ∷ []) c.new-versions.ensures.items) in
+    let found = two_are c.push-3.new.self.items a b items c.in_ok-version.ensures.from c.in_ok-version-2.ensures.from c.in_ok-version.ensures.entry c.in_ok-version-2.ensures.entry in
+    ap version_count c.assemble_versions.ensures.table ∙ ap (λ vs. version_count (table_of_versions hour 5 c.push.new.self.items vs)) found.2
+
+pub returns-clause-jobs : goal.returns-clause-jobs
+returns-clause-jobs c =
+    let a = c.in_ok-version.field-0 in
+    let b = c.in_ok-version-2.field-0 in
+    let items : c.push-3.new.self.items ≡ a ∷ b ∷ [] =
+    c.in_ok-push-3.ensures.items ∙ ap (λ l. l ++ b ∷ []) (c.in_ok-push-2.ensures.items ∙ ap (λ l. l ++ a ∷ []) c.new-versions.ensures.items) in
+    let found = two_are c.push-3.new.self.items a b items c.in_ok-version.ensures.from c.in_ok-version-2.ensures.from c.in_ok-version.ensures.entry c.in_ok-version-2.ensures.entry in
+    ap (λ (t : Table). length t.jobs) c.assemble_versions.ensures.table ∙ ap (λ vs. length (table_of_versions hour 5 c.push.new.self.items vs).jobs) found.2
+
+pub returns-clause-window : goal.returns-clause-window
+returns-clause-window c =
+    let a = c.in_ok-version.field-0 in
+    let b = c.in_ok-version-2.field-0 in
+    let items : c.push-3.new.self.items ≡ a ∷ b ∷ [] =
+    c.in_ok-push-3.ensures.items ∙ ap (λ l. l ++ b ∷ []) (c.in_ok-push-2.ensures.items ∙ ap (λ l. l ++ a ∷ []) c.new-versions.ensures.items) in
+    let found = two_are c.push-3.new.self.items a b items c.in_ok-version.ensures.from c.in_ok-version-2.ensures.from c.in_ok-version.ensures.entry c.in_ok-version-2.ensures.entry in
+    ap (λ (t : Table). t.window) c.assemble_versions.ensures.table ∙ ap (λ vs. (table_of_versions hour 5 c.push.new.self.items vs).window) found.2
