@@ -56,6 +56,8 @@ class Journal:
 
 
 def main():
+    if sys.argv[1:]:
+        sys.exit(__doc__.strip())
     journal = Journal()
     print("cron journal 1")
     for number, line in enumerate(sys.stdin, 1):
