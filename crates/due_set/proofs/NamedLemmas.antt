@@ -8,7 +8,7 @@ use Rattle.due_set.specs.Table.{IsAnacron, IsJobDue, IsKindOfName, IsSound, Job,
 use Rattle.due_set.specs.declared.job.JobKind.{JobKind}
 use Rattle.due_set.specs.declared.job.JobKind.TheVariants.{Anacron, Crontab, Never}
 use Rattle.due_set.proofs.SoundLemmas.{at_place, has_version, jobs_of_version, length_of_version}
-use Rattle.due_set.proofs.TableLemmas.{All-slice_get, same_job}
+use Rattle.due_set.proofs.TableLemmas.{All-slice_get}
 
 -- a job that a version has stands in the table under the same name
 pub named_in_table : (table : Table) (version number : ℕ) (job : Job) → IsSound table → job_of_version table version number ≡ Some job

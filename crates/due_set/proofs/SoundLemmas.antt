@@ -1,12 +1,12 @@
 -- What follows from what holds of each table.
 use Rattle.std.proofs.Common.{◌≡◌, ℕ, zero, suc, ◌<◌, length, map, List, [], Option, None, Some, ℤ, pos, ◌+ℤ◌, ◌≤ℤ◌, inl, inr, ◌↔◌, get_or, refl, sym, ap, ◌∙◌, subst, arith}
-use Rattle.std.specs.Prelude.{slice_get}
+use Rattle.std.specs.Prelude.{slice_get, AllPairs}
 use Rattle.std.proofs.lemmas.Bool.{cases_lt}
 use Rattle.std.proofs.lemmas.List.{length-map}
 use Rattle.std.proofs.lemmas.Option.{slice_get_cases, slice_get_within, get_or_from_slice_get}
 use Rattle.jiff.specs.Types.{TimeZone}
 use Rattle.due_set.specs.Calls.{HasCome, IsOnTime}
-use Rattle.due_set.specs.Table.{IsAnacron, IsBuiltFor, IsJobIn, IsJobRead, IsSound, IsVersionOf, AreKindsOfNames, AreVersionsOf, AreZonesBelow, Job, Table, Version, job_of_version, jobs_in, jobs_of_later, own_name, version_count}
+use Rattle.due_set.specs.Table.{IsAnacron, IsBuiltFor, IsJobIn, IsJobRead, IsSound, IsVersionOf, AreKindsOfNames, AreVersionsOf, AreZonesBelow, Job, Table, Version, job_of_version, jobs_in, jobs_of_later, own_name, version_count, version_from}
 use Rattle.due_set.specs.declared.job.JobKind.{JobKind}
 use Rattle.due_set.specs.declared.job.JobKind.TheVariants.{Crontab, Anacron, Never}
 use Rattle.due_set.proofs.TableLemmas.{All-slice_get}
@@ -78,6 +78,13 @@ no_later table = record {
   in_order = λ i j d rises within. absurd (omega (arith, within));
 }
 
+-- what stands at two places of a list of which each element is so to each later one
+pub of_places : {X : Type 0} (R : X → X → Type 0) (xs : List X) (i j : ℕ) (x y : X) → AllPairs R xs → i < j → slice_get xs i ≡ Some x
+    → slice_get xs j ≡ Some y → R x y
+of_places R xs i j x y all rises is_x is_y =
+    subst (λ z. R z y) (get_or_from_slice_get xs i x x is_x)
+    (subst (R (get_or xs i x)) (get_or_from_slice_get xs j y x is_y) (all i j x rises (slice_get_within xs j y is_y)))
+
 -- what holds of a version after the first
 pub version_is : (table : Table) (place : ℕ) (version : Version) → IsSound table → slice_get table.later place ≡ Some version → IsVersionOf table version
 version_is table place version sound is = All-slice_get (IsVersionOf table) table.later place version sound.versions.each is
@@ -113,3 +120,15 @@ has_version table (suc place) number job sound is_job = by (slice_get table.late
         no_job : slice_get nothing number ≡ Some job → ⊥
         no_job e = let lt : number < length nothing = slice_get_within nothing number job e in omega (arith, lt)
     by (Some version) is = let lt = slice_get_within table.later place version is in omega (arith, lt)
+
+-- a version comes no sooner than those before it
+pub comes_in_order : (table : Table) (earlier later : ℕ) → IsSound table → earlier < later → later < version_count table
+    → version_from table earlier ≤ℤ version_from table later
+comes_in_order table earlier zero sound rises within = absurd (omega arith)
+comes_in_order table zero (suc place) sound rises within =
+    let found = at_place table.later place (omega arith) in
+    rw found.1 ((version_is table place found.0 sound found.1).inside.since)
+comes_in_order table (suc before) (suc place) sound rises within =
+    let first = at_place table.later before (omega arith) in
+    let second = at_place table.later place (omega arith) in
+    rw (first.1, second.1) (of_places (λ a b. a.from ≤ℤ b.from) table.later before place first.0 second.0 sound.versions.in_order (omega arith) first.1 second.1)

@@ -8,8 +8,8 @@
 //! instant or date has come, and whether it is on time (`HasCome`, `IsOnTime`). What holds of each table, its limits,
 //! names, zones and versions, is a clause of these calls (`sound`: `IsSound`). Each job of a version has one list of due
 //! instants (`each_job_has_a_due_list`), and at each instant one date on which it may open or none
-//! (`a_job_may_open_or_not`); whether it runs by its period is said by its name (`a_name_says_how_a_job_runs`). Due
-//! instants are defined by the local time that `jiff` gives for the rules and files of a run. `scan` finds due
+//! (`a_job_may_open_or_not`); whether it runs by its period is said by its name (`a_name_says_how_a_job_runs`).
+//! No version comes before an earlier one (`versions_come_in_order`). Due instants are defined by the local time that `jiff` gives for the rules and files of a run. `scan` finds due
 //! instants, `matching` the next civil minute of an entry, `anacron` the dates of a job that runs by its period.
 #![tactic(auto)]
 
@@ -32,6 +32,6 @@ pub use laws::{
 pub use sound::{
     a_job_may_open_or_not, a_job_opens_on_its_date, a_name_says_how_a_job_runs,
     a_name_says_one_job, each_job_has_a_zone, launches_come_at_their_instants,
-    periods_are_over_since_each_launch,
+    periods_are_over_since_each_launch, versions_come_in_order,
 };
 pub use table::JobTable;

@@ -3,7 +3,7 @@ ghost use Rattle.std.specs.Prelude.{◌≡◌, ◌⊎◌, ◌<◌, ◌↔◌, �
 ghost use Rattle.jiff.specs.Types.{TimeZone};
 ghost use Rattle.due_set.specs.Calls.{HasCome, IsOnTime};
 ghost use Rattle.due_set.specs.Anacron.{IsJobOpen, IsPeriodOver};
-ghost use Rattle.due_set.specs.Table.{Job, Table, IsAnacron, IsJobDue, IsJobIn, IsJobRead, IsSound, is_by_period, version_count};
+ghost use Rattle.due_set.specs.Table.{Job, Table, IsAnacron, IsJobDue, IsJobIn, IsJobRead, IsSound, is_by_period, version_count, version_from};
 ghost use Rattle.due_set.specs.declared.job.Period.{Period};
 
 /// A law: a name says one job of a table at most.
@@ -17,6 +17,12 @@ pub fn a_name_says_one_job()
 pub fn each_job_has_a_zone()
     ensures { (table : Table) (version number : ℕ) → IsSound table → version < version_count table → number < length table.jobs
         → IsJobRead table version number }
+{}
+
+/// A law: a version comes no sooner than those before it.
+pub fn versions_come_in_order()
+    ensures { (table : Table) (earlier later : ℕ) → IsSound table → earlier < later → later < version_count table
+        → version_from table earlier ≤ℤ version_from table later }
 {}
 
 /// A law: in each version a job that may open runs by its period, and one that is due doesn't.

@@ -1,4 +1,4 @@
-ghost use Rattle.std.specs.Prelude.{◌≡◌, ◌<◌, ◌≤◌, ◌↔◌, ℤ, List, [], ◌∷◌, length, map, All, IsTrue, IsSomeAnd, IfSome, IfNone, IfOk, slice_get, Some};
+ghost use Rattle.std.specs.Prelude.{◌≡◌, ◌<◌, ◌≤◌, ◌↔◌, ℤ, [], ◌∷◌, length, map, All, IsTrue, IsSomeAnd, IfSome, IfNone, IfOk, slice_get, Some};
 ghost use Rattle.jiff.specs.Types.{TimeZone};
 ghost use Rattle.zone_minutes.specs.Civil.{IsCalendarMinute};
 ghost use Rattle.zone_minutes.specs.Window.{IsInWindow, IsWithinLimits};
@@ -211,7 +211,11 @@ impl JobTable {
         ensures by_name { result ≡ is_by_period self.now job }
         ensures sound { IsSound self.now }
     {
-        is_period_name(self.name(job))
+        match self.spec(0, job).kind {
+            JobKind::Anacron { .. } => true,
+            JobKind::Crontab { .. } => false,
+            JobKind::Never => is_period_name(self.name(job)),
+        }
     }
 
     /// How many versions of the table there are.
