@@ -13,7 +13,7 @@ use Rattle.step_spec.specs.State.{State, prefix_of}
 use Rattle.agreement.specs.World.{Doing, World, after_doing, after_done, answered_after}
 use Rattle.std.specs.List.{filter}
 use Rattle.step_spec.specs.May.{AllMay, IsCounted, IsNamed, none_named, by_saying, MayEnter, Saying}
-use Rattle.paxos_base.specs.declared.entry.Entry.TheVariants.{Noop, Start, End}
+use Rattle.paxos_base.specs.declared.entry.Entry.TheVariants.{Noop, Start, End, Table as TableEntry}
 use Rattle.step_spec.specs.Message.{Accept, Accepted, Known, Snap}
 use Rattle.step_spec.specs.Step.{IsLaunchTable}
 use Rattle.step_spec.proofs.LineLemmas.{step_may}
@@ -81,6 +81,7 @@ may_more setting more answers state (Propose me vote) stays answers_stay may = r
   where
     enter : (entry : Entry) → MayEnter setting state entry → MayEnter (with_more more answers setting) state entry
     enter Noop it = it
+    enter (TableEntry version now) it = absurd it
     enter (Start job at now) it = record { rows = it.rows; rows_are = it.rows_are; asked = it.asked }
     enter (End job at kind) it = record { rows = it.rows; rows_are = it.rows_are; open_there = it.open_there; answered = answers_stay _ it.answered }
 may_more setting more answers state (Count from) stays answers_stay may = record {

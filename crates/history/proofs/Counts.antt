@@ -4,7 +4,7 @@ use Rattle.std.specs.List.{All, Contains, range_with_len}
 use Rattle.std.proofs.lemmas.List.Elements.{All-set, All-contains, All-cons}
 use Rattle.paxos_base.specs.Rows.{fresh_row, row_count}
 use Rattle.paxos_base.specs.declared.entry.Entry.{Entry}
-use Rattle.paxos_base.specs.declared.entry.Entry.TheVariants.{Noop, Start, End}
+use Rattle.paxos_base.specs.declared.entry.Entry.TheVariants.{Noop, Start, End, Table as TableEntry}
 use Rattle.paxos_base.specs.declared.entry.Kind.{Kind}
 use Rattle.paxos_base.specs.declared.entry.Kind.TheVariants.{Launch, Void}
 use Rattle.paxos_base.specs.declared.rows.JobRow.{JobRow}
@@ -47,6 +47,7 @@ row_within most rows job within = row_at most rows job (fresh_row job) (omega ar
 
 after_within : (table : Table) (most : ℕ) (rows : List JobRow) (entry : Entry) (middle : List JobRow) → AreRowsWithin most rows → Applies table rows entry middle → AreRowsWithin (most + 1) middle
 after_within table most rows Noop middle within (inl (takes, is)) = absurd takes
+after_within table most rows (TableEntry version now) middle within (inl (takes, is)) = absurd takes
 after_within table most rows (Start job at now) middle within (inl (takes, is)) =
     let up = rows_more most (most + 1) rows (omega arith) within in
     rw is (All-set (CountsWithin (most + 1)) rows job (opened_row at now (get_or rows job (fresh_row job))) (row_within (most + 1) rows job up) up)

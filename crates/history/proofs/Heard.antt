@@ -8,7 +8,7 @@ use Rattle.paxos_base.specs.declared.rows.TableSize.{TableSize}
 use Rattle.paxos_base.specs.Ballot.{round_of}
 use Rattle.paxos_base.specs.Rows.{fits_table, fresh_row, row_count}
 use Rattle.paxos_base.specs.declared.entry.Entry.{Entry}
-use Rattle.paxos_base.specs.declared.entry.Entry.TheVariants.{Noop, Start, End}
+use Rattle.paxos_base.specs.declared.entry.Entry.TheVariants.{Noop, Start, End, Table as TableEntry}
 use Rattle.paxos_base.specs.declared.entry.Vote.{Vote}
 use Rattle.paxos_base.specs.declared.rows.JobRow.{JobRow}
 use Rattle.paxos_letter.specs.Letters.{Spells}
@@ -38,6 +38,7 @@ use Rattle.due_set.proofs.Rising.{Contains-head as in_first, Contains-tail as in
 
 pub Applies-length : (table : Table) (rows : List JobRow) (entry : Entry) (middle : List JobRow) → Applies table rows entry middle → length middle ≡ length rows
 Applies-length table rows Noop middle (inl (takes, is)) = absurd takes
+Applies-length table rows (TableEntry version now) middle (inl (takes, is)) = absurd takes
 Applies-length table rows (Start job at now) middle (inl (takes, is)) = ap length is ∙ length-set rows job (opened_row at now (get_or rows job (fresh_row job)))
 Applies-length table rows (End job at kind) middle (inl (takes, is)) = ap length is ∙ length-set rows job (closed_row at kind (get_or rows job (fresh_row job)))
 Applies-length table rows entry middle (inr (none, is)) = ap length is

@@ -16,7 +16,7 @@ use Rattle.zone_minutes.proofs.RunLemmas.{local_of-ahead}
 use Rattle.zone_minutes.proofs.ZoneLemmas.{offset_small}
 use Rattle.paxos_base.specs.Rows.{fresh_row, row_count}
 use Rattle.paxos_base.specs.declared.entry.Entry.{Entry}
-use Rattle.paxos_base.specs.declared.entry.Entry.TheVariants.{Noop, Start, End}
+use Rattle.paxos_base.specs.declared.entry.Entry.TheVariants.{Noop, Start, End, Table as TableEntry}
 use Rattle.paxos_base.specs.declared.entry.Kind.{Kind}
 use Rattle.paxos_base.specs.declared.entry.Kind.TheVariants.{Launch, Void}
 use Rattle.paxos_base.specs.declared.rows.JobRow.{JobRow}
@@ -130,6 +130,7 @@ end_spreads table job row at since Void is_open spread =
 
 after_spreads : (table : Table) (rows : List JobRow) (entry : Entry) (middle : List JobRow) → IsSound table → AreSpread table rows → Applies table rows entry middle → AreSpread table middle
 after_spreads table rows Noop middle sound spread (inl (takes, is)) = absurd takes
+after_spreads table rows (TableEntry version now) middle sound spread (inl (takes, is)) = absurd takes
 after_spreads table rows (Start job at now) middle sound spread (inl (takes, is)) =
     let new = start_spreads table job takes.row at now sound takes.idle takes.may (spread job takes.row takes.is_row) in
     rw is (put_spreads table rows job (opened_row at now (get_or rows job (fresh_row job))) spread

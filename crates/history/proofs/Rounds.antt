@@ -156,15 +156,16 @@ sent from to packets = record { to = to; bytes = spelling from packets }
 abbrev pub mail : ℕ → ℕ → List Packet → PostedLetter
 mail from to packets = record { from = from; to = to; bytes = spelling from packets }
 
-small_tag : (e : Entry) → (numbers_of e).tag ≤ 3
+small_tag : (e : Entry) → (numbers_of e).tag ≤ 4
 small_tag entry.Noop = omega arith
+small_tag (entry.Table version now) = omega arith
 small_tag (entry.Start job at now) = omega arith
 small_tag (entry.End job at Launch) = omega arith
 small_tag (entry.End job at Void) = omega arith
 
 pub accept_spells : (slot : ℕ) (e : Entry) → slot < 2 ^ 62 → FitEntryFields (numbers_of e) → Spells 2 0 (packet.Accept 8 slot e ∷ []) (spelling 0 (packet.Accept 8 slot e ∷ []))
 accept_spells slot e small fits = record {
-  letter = record { some = λ is. cc; kinds = (rw (le-leb (numbers_of e).tag 3 (small_tag e)) refl, tt); members_keep = (refl, tt); groups = refl };
+  letter = record { some = λ is. cc; kinds = (rw (le-leb (numbers_of e).tag 4 (small_tag e)) refl, tt); members_keep = (refl, tt); groups = refl };
   fits = (record { kind = lit< tt; from = lit< tt; tag = omega (arith, small_tag e); zero = lit< tt; job = fits.job; ballot = lit< tt; slot = omega (arith, small); old = lit< tt; at = fits.at; moment = fits.now; last = grind arith }, tt);
   spelled = refl;
 }
@@ -178,7 +179,7 @@ accepted_spells slot small = record {
 
 known_spells : (slot : ℕ) (e : Entry) → slot < 2 ^ 62 → FitEntryFields (numbers_of e) → Spells 2 0 (packet.Known slot e ∷ []) (spelling 0 (packet.Known slot e ∷ []))
 known_spells slot e small fits = record {
-  letter = record { some = λ is. cc; kinds = (rw (le-leb (numbers_of e).tag 3 (small_tag e)) refl, tt); members_keep = (refl, tt); groups = refl };
+  letter = record { some = λ is. cc; kinds = (rw (le-leb (numbers_of e).tag 4 (small_tag e)) refl, tt); members_keep = (refl, tt); groups = refl };
   fits = (record { kind = lit< tt; from = lit< tt; tag = omega (arith, small_tag e); zero = lit< tt; job = fits.job; ballot = lit< tt; slot = omega (arith, small); old = lit< tt; at = fits.at; moment = fits.now; last = grind arith }, tt);
   spelled = refl;
 }

@@ -5,7 +5,7 @@ use Rattle.std.proofs.lemmas.Bool.{and_from, cases_eq, eq-eqb, le-leb, ne_eqb}
 use Rattle.std.proofs.lemmas.Option.{get_or_from_slice_get, slice_get-get_or, slice_get_within}
 use Rattle.paxos_base.specs.Rows.{AreNumbered, RowsStand, fits_table, fresh_row, is_table_row, row_count}
 use Rattle.paxos_base.specs.declared.entry.Entry.{Entry}
-use Rattle.paxos_base.specs.declared.entry.Entry.TheVariants.{Noop, Start, End}
+use Rattle.paxos_base.specs.declared.entry.Entry.TheVariants.{Noop, Start, End, Table as TableEntry}
 use Rattle.paxos_base.specs.declared.rows.JobRow.{JobRow}
 use Rattle.paxos_base.proofs.RowLemmas.{AreNumbered-fresh_rows, fresh_there}
 use Rattle.due_set.specs.Table.{Table}
@@ -72,6 +72,7 @@ end_other table rows job at version takes same =
 
 pub Applies-first_version : (table : Table) (rows : List JobRow) (entry : Entry) (middle : List JobRow) → HasFirstVersion table rows → Applies table rows entry middle → HasFirstVersion table middle
 Applies-first_version table rows Noop middle version (inl (takes, is)) = absurd takes
+Applies-first_version table rows (TableEntry number now) middle version (inl (takes, is)) = absurd takes
 Applies-first_version table rows (Start job at now) middle version (inl (takes, is)) =
     let here : JobRow = get_or rows job (fresh_row job) in
     let number : (opened_row at now here).job ≡ job =

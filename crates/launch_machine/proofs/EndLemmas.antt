@@ -3,7 +3,7 @@ use Rattle.std.proofs.Common.{◌≡◌, ◌≢◌, ℕ, zero, suc, ◌+◌, inl
 use Rattle.std.specs.Prelude.{map, slice_get}
 use Rattle.std.specs.List.{range_with_len}
 use Rattle.paxos_base.specs.declared.entry.Entry.{Entry}
-use Rattle.paxos_base.specs.declared.entry.Entry.TheVariants.{Noop, Start, End}
+use Rattle.paxos_base.specs.declared.entry.Entry.TheVariants.{Noop, Start, End, Table as TableEntry}
 use Rattle.paxos_base.specs.declared.entry.Kind.{Kind}
 use Rattle.paxos_base.specs.declared.entry.Kind.TheVariants.{Launch, Void}
 use Rattle.paxos_base.specs.declared.rows.JobRow.{JobRow}
@@ -59,6 +59,8 @@ after_other : (table : Table) (rows : List JobRow) (entry : Entry) (middle : Lis
     → (EndsJob rows entry job kind → ⊥) → Applies table rows entry middle → HasAt (counted kind) rows job count → HasAt (counted kind) middle job count
 after_other table rows Noop middle job kind count none (inl (takes, e)) known = unchanged (counted kind) rows middle job count e known
 after_other table rows Noop middle job kind count none (inr (not, e)) known = unchanged (counted kind) rows middle job count e known
+after_other table rows (TableEntry version now) middle job kind count none (inl (takes, e)) known = absurd takes
+after_other table rows (TableEntry version now) middle job kind count none (inr (not, e)) known = unchanged (counted kind) rows middle job count e known
 after_other table rows (Start j at now) middle job kind count none (inr (not, e)) known = unchanged (counted kind) rows middle job count e known
 after_other table rows (Start j at now) middle job kind count none (inl (takes, e)) known =
     elim (cases_eq job j) [

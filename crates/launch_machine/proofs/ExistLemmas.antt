@@ -2,7 +2,7 @@
 use Rattle.std.proofs.Common.{◌≡◌, ◌≢◌, ℕ, ◌+◌, ◌≤ℤ◌, ◌⊎◌, inl, inr, List, [], ◌∷◌, Option, None, Some, ℤ, refl, sym, ap, ◌∙◌, subst}
 use Rattle.std.specs.Prelude.{slice_get}
 use Rattle.paxos_base.specs.declared.entry.Entry.{Entry}
-use Rattle.paxos_base.specs.declared.entry.Entry.TheVariants.{Noop, Start, End}
+use Rattle.paxos_base.specs.declared.entry.Entry.TheVariants.{Noop, Start, End, Table as TableEntry}
 use Rattle.paxos_base.specs.declared.entry.Kind.{Kind}
 use Rattle.paxos_base.specs.declared.entry.Kind.TheVariants.{Launch, Void}
 use Rattle.paxos_base.specs.declared.rows.JobRow.{JobRow}
@@ -71,6 +71,7 @@ end_by_row rows job at row is_row (Some since) (Some other) is_open is_cursor = 
 -- of a sound table an entry takes effect or it doesn't
 takes_or_not : (table : Table) → IsSound table → (rows : List JobRow) (entry : Entry) → IsDecided (TakesEffect table rows entry)
 takes_or_not table sound rows Noop = inr (λ takes. takes)
+takes_or_not table sound rows (TableEntry version now) = inr (λ takes. takes)
 takes_or_not table sound rows (Start job at now) = by_row (slice_get rows job) refl
   where
     by_row : (found : Option JobRow) → slice_get rows job ≡ found → IsDecided (TakesStart table rows job at now)
@@ -103,6 +104,7 @@ clerk_exists table sound entries = all_applied table sound (first_rows table) en
 starts_or_not : (table : Table) (rows : List JobRow) (entry : Entry) (middle : List JobRow) (job : ℕ) (later : List ℤ) → Applies table rows entry middle
     → (instants : List ℤ) × AddsStart table rows entry job later instants
 starts_or_not table rows Noop middle job later applies = (later, inr (λ at starts. cc (starts.is), refl))
+starts_or_not table rows (TableEntry version now) middle job later applies = (later, inr (λ at starts. cc (starts.is), refl))
 starts_or_not table rows (End j at kind) middle job later applies = (later, inr (λ other starts. cc (starts.is), refl))
 starts_or_not table rows (Start j at now) middle job later (inr (not, e)) =
     (later, inr (λ other starts. not (subst (TakesEffect table rows) (sym starts.is) starts.takes), refl))
@@ -139,6 +141,7 @@ starts_exist table rows (entry ∷ entries) last job (middle, step, rest) =
 ends_or_not : (table : Table) (rows : List JobRow) (entry : Entry) (middle : List JobRow) (job : ℕ) (kind : Kind) (later : ℕ) → Applies table rows entry middle
     → (count : ℕ) × AddsEnd rows entry job kind later count
 ends_or_not table rows Noop middle job kind later applies = (later, inr (λ ends. cc (ends.is), refl))
+ends_or_not table rows (TableEntry version now) middle job kind later applies = (later, inr (λ ends. cc (ends.is), refl))
 ends_or_not table rows (Start j at now) middle job kind later applies = (later, inr (λ ends. cc (ends.is), refl))
 ends_or_not table rows (End j at k) middle job kind later (inr (not, e)) =
     (later, inr (λ ends. not (subst (TakesEffect table rows) (sym ends.is) ends.takes), refl))

@@ -5,7 +5,7 @@ use Rattle.std.specs.List.{AllByRecursion, range_with_len}
 use Rattle.std.proofs.lemmas.Int.{ints, by_lt_z}
 use Rattle.std.proofs.lemmas.Option.{get_or_from_slice_get}
 use Rattle.paxos_base.specs.declared.entry.Entry.{Entry}
-use Rattle.paxos_base.specs.declared.entry.Entry.TheVariants.{Noop, Start, End}
+use Rattle.paxos_base.specs.declared.entry.Entry.TheVariants.{Noop, Start, End, Table as TableEntry}
 use Rattle.paxos_base.specs.declared.entry.Kind.{Kind}
 use Rattle.paxos_base.specs.declared.rows.JobRow.{JobRow}
 use Rattle.due_set.specs.Due.{IsRising}
@@ -158,6 +158,8 @@ after_other : (table : Table) (rows : List JobRow) (entry : Entry) (middle : Lis
     → ((at : ℤ) → StartsJob table rows entry job at → ⊥) → Applies table rows entry middle → HasCursor rows job cursor → HasCursor middle job cursor
 after_other table rows Noop middle job cursor none (inl (takes, e)) known = unchanged (λ r. r.cursor) rows middle job cursor e known
 after_other table rows Noop middle job cursor none (inr (not, e)) known = unchanged (λ r. r.cursor) rows middle job cursor e known
+after_other table rows (TableEntry version now) middle job cursor none (inl (takes, e)) known = absurd takes
+after_other table rows (TableEntry version now) middle job cursor none (inr (not, e)) known = unchanged (λ r. r.cursor) rows middle job cursor e known
 after_other table rows (Start j at now) middle job cursor none (inr (not, e)) known = unchanged (λ r. r.cursor) rows middle job cursor e known
 after_other table rows (Start j at now) middle job cursor none (inl (takes, e)) known =
     elim (cases_eq job j) [

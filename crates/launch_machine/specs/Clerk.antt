@@ -1,7 +1,7 @@
 -- What the entries of the log do to the launch table: one clerk, who goes over one list.
 use Rattle.std.specs.Prelude.{◌≡◌, ◌⊎◌, ℕ, ◌+◌, List, [], ◌∷◌, None, Some, ℤ, ◌≤ℤ◌, length, slice_get, slice_set, slice_index_or}
 use Rattle.paxos_base.specs.declared.entry.Entry.{Entry}
-use Rattle.paxos_base.specs.declared.entry.Entry.TheVariants.{Noop, Start, End}
+use Rattle.paxos_base.specs.declared.entry.Entry.TheVariants.{Noop, Start, End, Table as TableEntry}
 use Rattle.paxos_base.specs.declared.entry.Kind.{Kind}
 use Rattle.paxos_base.specs.declared.entry.Kind.TheVariants.{Launch, Void}
 use Rattle.paxos_base.specs.declared.rows.JobRow.{JobRow}
@@ -37,11 +37,12 @@ pub record TakesEnd (rows : List JobRow) (job : ℕ) (at : ℤ) : Type 0 where
   pub is_open : row.open_now ≡ Some since
   pub cursor : row.cursor ≡ Some at
 
--- an entry takes effect; a no-op never does
+-- an entry takes effect; a no-op never does, and no version of a table is in force but the first
 abbrev pub TakesEffect : Table → List JobRow → Entry → Type 0
 TakesEffect table rows Noop = ⊥
 TakesEffect table rows (Start job at now) = TakesStart table rows job at now
 TakesEffect table rows (End job at kind) = TakesEnd rows job at
+TakesEffect table rows (TableEntry version now) = ⊥
 
 -- a row that a start opens
 abbrev pub opened_row : ℤ → ℤ → JobRow → JobRow
@@ -61,6 +62,7 @@ abbrev pub rows_after : List JobRow → Entry → List JobRow
 rows_after rows Noop = rows
 rows_after rows (Start job at now) = with_row (opened_row at now) rows job
 rows_after rows (End job at kind) = with_row (closed_row at kind) rows job
+rows_after rows (TableEntry version now) = rows
 
 -- one entry: where it takes no effect, it changes nothing
 abbrev pub Applies : Table → List JobRow → Entry → List JobRow → Type 0

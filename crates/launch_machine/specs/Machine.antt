@@ -4,7 +4,7 @@ use Rattle.jiff.specs.Types.{TimeZone}
 use Rattle.zone_minutes.specs.Window.{IsInWindow}
 use Rattle.paxos_base.specs.Rows.{RowsStand}
 use Rattle.paxos_base.specs.declared.entry.Entry.{Entry}
-use Rattle.paxos_base.specs.declared.entry.Entry.TheVariants.{Noop, Start, End}
+use Rattle.paxos_base.specs.declared.entry.Entry.TheVariants.{Noop, Start, End, Table as TableEntry}
 use Rattle.paxos_base.specs.declared.rows.JobRow.{JobRow}
 use Rattle.due_set.specs.Calls.{HasCome}
 use Rattle.due_set.specs.Table.{Job, Table, IsJobIn}
@@ -68,6 +68,7 @@ abbrev pub CanCount : List JobRow → Entry → Type 0
 CanCount rows Noop = ⊤
 CanCount rows (Start job at now) = ⊤
 CanCount rows (End job at kind) = CanRise rows job
+CanCount rows (TableEntry version now) = ⊤
 
 -- each count of the rows is below this
 abbrev pub CountsBelow : ℕ → List JobRow → Type 0

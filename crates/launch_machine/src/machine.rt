@@ -152,7 +152,7 @@ impl Machine {
         ensures effect { IsEffect table.now self.old.rows entry result }
     {
         match entry {
-            Entry::Noop => Effect::Ignored,
+            Entry::Noop | Entry::Table { .. } => Effect::Ignored,
             Entry::Start { job, at, now } => self.start(table, job, at, now),
             Entry::End { job, at, kind } => self.end(table, job, at, kind),
         }

@@ -5,7 +5,7 @@ use Rattle.std.proofs.lemmas.List.Elements.{All-contains_itself}
 use Rattle.paxos_base.specs.Vote.{vote_at}
 use Rattle.paxos_base.specs.declared.durable.Delta.{Delta}
 use Rattle.paxos_base.specs.declared.entry.Entry.{Entry}
-use Rattle.paxos_base.specs.declared.entry.Entry.TheVariants.{Noop, Start, End}
+use Rattle.paxos_base.specs.declared.entry.Entry.TheVariants.{Noop, Start, End, Table as TableEntry}
 use Rattle.paxos_base.specs.declared.entry.Vote.{Vote}
 use Rattle.paxos_base.specs.declared.rows.JobRow.{JobRow}
 use Rattle.due_set.specs.Table.{Table}
@@ -132,6 +132,7 @@ module _ (n : ℕ) (table : Table) (book : List Row) (few : n ≤ 7) (legal : Is
   module _ (turn : Turn) (of : turn_of turn ≡ Some who) (reads : (now : ℤ) → TicksAt now cause → ReadsAt now turn) where
     ticked_in : (slot : ℕ) (entry : Entry) → prefix_of state ≡ slot → IsTicked event entry → AsksEntry n table book turn slot entry
     ticked_in slot Noop learned ticked = tt
+    ticked_in slot (TableEntry version now) learned ticked = tt
     ticked_in slot (End job at kind) learned ticked = tt
     ticked_in slot (Start job at now) learned (plan, is, wants) =
         let planned : IsPlanned table state (Tick now plan) = subst (IsPlanned table state) is takes.planned in

@@ -5,7 +5,7 @@ use Rattle.std.specs.List.{range_with_len}
 use Rattle.std.proofs.lemmas.Int.{ints, by_lt_z}
 use Rattle.std.proofs.lemmas.List.{append_assoc}
 use Rattle.paxos_base.specs.declared.entry.Entry.{Entry}
-use Rattle.paxos_base.specs.declared.entry.Entry.TheVariants.{Noop, Start, End}
+use Rattle.paxos_base.specs.declared.entry.Entry.TheVariants.{Noop, Start, End, Table as TableEntry}
 use Rattle.paxos_base.specs.declared.entry.Kind.{Kind}
 use Rattle.paxos_base.specs.declared.entry.Kind.TheVariants.{Launch, Void}
 use Rattle.paxos_base.specs.declared.rows.JobRow.{JobRow}
@@ -126,6 +126,7 @@ cover_next : (table : Table) (log : List Entry) (rows middle : List JobRow) (ent
 cover_next table log rows middle entry job clerk (inr (not, e)) known =
     cover_left table log (entry ∷ []) rows middle job (ap (λ (m : List JobRow). slice_get m job) e) known
 cover_next table log rows middle Noop job clerk (inl (takes, e)) known = absurd takes
+cover_next table log rows middle (TableEntry version now) job clerk (inl (takes, e)) known = absurd takes
 cover_next table log rows middle (Start j at now) job clerk (inl (takes, e)) known =
     elim (cases_eq job j) [
       | inl same ↦ subst (λ (k : ℕ). HasCover table (log ++ Start k at now ∷ []) middle job) same (

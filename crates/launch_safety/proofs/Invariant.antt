@@ -4,7 +4,7 @@ use Rattle.std.specs.List.{Contains}
 use Rattle.std.proofs.lemmas.List.{take-append-le}
 use Rattle.std.proofs.lemmas.List.Elements.{Contains-append_left}
 use Rattle.paxos_base.specs.declared.entry.Entry.{Entry}
-use Rattle.paxos_base.specs.declared.entry.Entry.TheVariants.{Noop, Start, End}
+use Rattle.paxos_base.specs.declared.entry.Entry.TheVariants.{Noop, Start, End, Table as TableEntry}
 use Rattle.paxos_base.specs.declared.entry.Kind.{Kind}
 use Rattle.due_set.specs.Table.{Table}
 use Rattle.cluster_sched.specs.Held.{AreNamedOnce}
@@ -19,6 +19,7 @@ use Rattle.launch_safety.specs.Fitting.{TakesEffectAt}
 -- an end says the kind of a row that is held under its launch's name
 abbrev pub SaysHeld : List SchedRow → Entry → Type 0
 SaysHeld held Noop = Unit {0}
+SaysHeld held (TableEntry version now) = Unit {0}
 SaysHeld held (Start job at now) = Unit {0}
 SaysHeld held (End job at kind) = IsHeld held job at kind
 
@@ -55,6 +56,7 @@ held_more held more job at kind known = record {
 
 pub says_more : (held more : List SchedRow) (entry : Entry) → SaysHeld held entry → SaysHeld (held ++ more) entry
 says_more held more Noop says = tt
+says_more held more (TableEntry version now) says = tt
 says_more held more (Start job at now) says = tt
 says_more held more (End job at kind) says = held_more held more job at kind says
 
@@ -72,3 +74,5 @@ works_more table log more slot (Start job at now) (short, takes) =
     (front_longer log more slot short, after_more table log more slot (Start job at now) short takes)
 works_more table log more slot (End job at kind) (short, takes) =
     (front_longer log more slot short, after_more table log more slot (End job at kind) short takes)
+works_more table log more slot (TableEntry version now) (short, takes) =
+    (front_longer log more slot short, after_more table log more slot (TableEntry version now) short takes)

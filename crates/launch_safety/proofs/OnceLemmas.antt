@@ -4,7 +4,7 @@ use Rattle.std.specs.List.{slice_get}
 use Rattle.std.proofs.lemmas.Int.{ints}
 use Rattle.paxos_base.specs.Rows.{fresh_row}
 use Rattle.paxos_base.specs.declared.entry.Entry.{Entry}
-use Rattle.paxos_base.specs.declared.entry.Entry.TheVariants.{Noop, Start, End}
+use Rattle.paxos_base.specs.declared.entry.Entry.TheVariants.{Noop, Start, End, Table as TableEntry}
 use Rattle.paxos_base.specs.declared.entry.Kind.{Kind}
 use Rattle.paxos_base.specs.declared.entry.Kind.TheVariants.{Launch, Void}
 use Rattle.paxos_base.specs.declared.rows.JobRow.{JobRow}
@@ -63,6 +63,7 @@ passed_end at rows middle job ends kind takes e known row is_row =
 passed_next : (table : Table) (at : ℤ) (rows middle : List JobRow) (entry : Entry) (job : ℕ) → Applies table rows entry middle → HasPassed at rows job → HasPassed at middle job
 passed_next table at rows middle entry job (inr (not, e)) known = passed_left at rows middle job (ap (λ (m : List JobRow). slice_get m job) e) known
 passed_next table at rows middle Noop job (inl (takes, e)) known = absurd takes
+passed_next table at rows middle (TableEntry version now) job (inl (takes, e)) known = absurd takes
 passed_next table at rows middle (Start j later now) job (inl (takes, e)) known = elim (cases_eq job j) [
   | inl same ↦ passed_start table at rows middle job later now (subst (λ (k : ℕ). TakesStart table rows k later now) (sym same) takes)
       (e ∙ ap (with_row (opened_row later now) rows) (sym same)) known

@@ -6,7 +6,7 @@ use Rattle.std.proofs.lemmas.Int.{ints, by_lt_z}
 use Rattle.std.proofs.lemmas.List.{append-nil, append_assoc}
 use Rattle.std.proofs.lemmas.List.Elements.{All-contains}
 use Rattle.paxos_base.specs.declared.entry.Entry.{Entry}
-use Rattle.paxos_base.specs.declared.entry.Entry.TheVariants.{Noop, Start, End}
+use Rattle.paxos_base.specs.declared.entry.Entry.TheVariants.{Noop, Start, End, Table as TableEntry}
 use Rattle.paxos_base.specs.declared.entry.Kind.{Kind}
 use Rattle.paxos_base.specs.declared.entry.Kind.TheVariants.{Launch, Void}
 use Rattle.paxos_base.specs.declared.rows.JobRow.{JobRow}
@@ -205,6 +205,7 @@ dates_next : (table : Table) (log : List Entry) (rows middle : List JobRow) (ent
 dates_next table log rows middle entry job clerk (inr (not, e)) known =
     dates_left table log rows middle entry job clerk (ap (λ (m : List JobRow). slice_get m job) e) known (λ t now is takes. not takes) (λ t kind is takes. not takes)
 dates_next table log rows middle Noop job clerk (inl (takes, e)) known = absurd takes
+dates_next table log rows middle (TableEntry version now) job clerk (inl (takes, e)) known = absurd takes
 dates_next table log rows middle (Start j at now) job clerk (inl (takes, e)) known =
     elim (cases_eq job j) [
       | inl same ↦ subst (λ (k : ℕ). HasDates table (log ++ Start k at now ∷ []) middle job) same (

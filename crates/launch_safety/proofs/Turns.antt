@@ -7,7 +7,7 @@ use Rattle.std.proofs.lemmas.List.{take-append-drop}
 use Rattle.std.proofs.lemmas.List.Elements.{All-contains_itself}
 use Rattle.paxos_base.specs.Vote.{vote_at}
 use Rattle.paxos_base.specs.declared.entry.Entry.{Entry}
-use Rattle.paxos_base.specs.declared.entry.Entry.TheVariants.{Noop, Start, End}
+use Rattle.paxos_base.specs.declared.entry.Entry.TheVariants.{Noop, Start, End, Table as TableEntry}
 use Rattle.paxos_base.specs.declared.entry.Vote.{Vote}
 use Rattle.paxos_base.specs.declared.rows.JobRow.{JobRow}
 use Rattle.due_set.specs.Table.{Table}
@@ -158,6 +158,7 @@ module _ (n : ℕ) (table : Table) (book : List Row) (few : n ≤ 7) (legal : Is
   -- an entry of the replica's own accord takes effect at its prefix, and an end is what the scheduler has answered
   enters : (entry : Entry) → MayEnter setting state entry → Says (prefix_of state) entry
   enters Noop may = (tt, tt)
+  enters (TableEntry version now) may = absurd may
   enters (Start job at now) may = (tt, (follows.short, (may.rows, follows.table_is may.rows may.rows_are, may.asked.1.takes)))
   enters (End job at kind) may = (
     answer_held cause takes.event_of (record { to = who; job = job; at = at; kind = kind }) may.answered,

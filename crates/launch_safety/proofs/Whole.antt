@@ -6,7 +6,7 @@ use Rattle.std.proofs.lemmas.List.Concat.{flat_map-append}
 use Rattle.std.proofs.lemmas.List.Elements.{All-contains_itself, All-weaker, Contains-append_left}
 use Rattle.std.proofs.Math.Seq.{take-append_seam}
 use Rattle.paxos_base.specs.declared.entry.Entry.{Entry}
-use Rattle.paxos_base.specs.declared.entry.Entry.TheVariants.{Noop, Start, End}
+use Rattle.paxos_base.specs.declared.entry.Entry.TheVariants.{Noop, Start, End, Table as TableEntry}
 use Rattle.paxos_base.specs.declared.entry.Kind.{Kind}
 use Rattle.paxos_base.specs.declared.rows.JobRow.{JobRow}
 use Rattle.due_set.specs.Table.{Table}
@@ -56,6 +56,8 @@ module _ (n : ℕ) (table : Table) (book : List Row) (few : n ≤ 7) (legal : Is
       subst (λ front. TakesEffectAfter table front (Start job at now)) (front_is before after (Start job at now) parts) (entry_works before after (Start job at now) parts).1
   entry_takes before after (End job at kind) parts other =
       subst (λ front. TakesEffectAfter table front (End job at kind)) (front_is before after (End job at kind) parts) (entry_works before after (End job at kind) parts).1
+  entry_takes before after (TableEntry version now) parts other =
+      subst (λ front. TakesEffectAfter table front (TableEntry version now)) (front_is before after (TableEntry version now) parts) (entry_works before after (TableEntry version now) parts).1
 
   -- so the entries leave a launch table, whatever the table of jobs
   entry_applies : (before after : List Entry) (entry : Entry) (rows : List JobRow) → log ≡ before ++ entry ∷ after → IsClerkOf table before rows
@@ -69,6 +71,10 @@ module _ (n : ℕ) (table : Table) (book : List Row) (few : n ≤ 7) (legal : Is
       let (left, left_by, takes) = entry_takes before after (End job at kind) parts (λ is. cc) in
       let next = rows_after left (End job at kind) in
       (next, (IsClerkOf-push table before (End job at kind) next).1 (left, left_by, inl (takes, refl)))
+  entry_applies before after (TableEntry version now) rows parts clerk =
+      let (left, left_by, takes) = entry_takes before after (TableEntry version now) parts (λ is. cc) in
+      let next = rows_after left (TableEntry version now) in
+      (next, (IsClerkOf-push table before (TableEntry version now) next).1 (left, left_by, inl (takes, refl)))
 
   clerk_along : (before rest : List Entry) (rows : List JobRow) → log ≡ before ++ rest → IsClerkOf table before rows → (last : List JobRow) × IsClerkOf table log last
   clerk_along before [] rows parts clerk = (rows, subst (λ some. IsClerkOf table some rows) (sym (append-nil before) ∙ sym parts) clerk)

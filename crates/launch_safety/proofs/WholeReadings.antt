@@ -7,7 +7,7 @@ use Rattle.std.proofs.lemmas.List.Concat.{flat_map-append}
 use Rattle.std.proofs.lemmas.List.Elements.{All-contains, Contains-append_cases, Contains-append_right}
 use Rattle.std.proofs.lemmas.List.Sums.{fold_push}
 use Rattle.paxos_base.specs.declared.entry.Entry.{Entry}
-use Rattle.paxos_base.specs.declared.entry.Entry.TheVariants.{Noop, Start, End}
+use Rattle.paxos_base.specs.declared.entry.Entry.TheVariants.{Noop, Start, End, Table as TableEntry}
 use Rattle.due_set.specs.Table.{Table}
 use Rattle.cluster_sched.specs.Fates.{added, call}
 use Rattle.cluster_sched.specs.declared.fate.Fate.{Fate}
@@ -76,11 +76,13 @@ IsEntryAsked n table book slot entry = Unit {0}
 
 entry_more : (n : ℕ) (table : Table) (book more : List Row) (slot : ℕ) (entry : Entry) → IsEntryAsked n table book slot entry → IsEntryAsked n table (book ++ more) slot entry
 entry_more n table book more slot Noop known = tt
+entry_more n table book more slot (TableEntry version now) known = tt
 entry_more n table book more slot (End job at kind) known = tt
 entry_more n table book more slot (Start job at now) known = asked_more n table book more slot now (intent.Start job at) known
 
 entry_here : (n : ℕ) (table : Table) (book : List Row) (row : Row) (slot : ℕ) (entry : Entry) → AsksEntry n table book row.turn slot entry → IsEntryAsked n table (book ++ row ∷ []) slot entry
 entry_here n table book row slot Noop known = tt
+entry_here n table book row slot (TableEntry version now) known = tt
 entry_here n table book row slot (End job at kind) known = tt
 entry_here n table book row slot (Start job at now) known = asked_here n table book row slot now (intent.Start job at) known
 

@@ -1,7 +1,7 @@
 -- That the log of a book and the rows that its scheduler holds fit together.
 use Rattle.std.specs.Prelude.{ℕ, ◌≤◌, ⊤, List, length, take}
 use Rattle.paxos_base.specs.declared.entry.Entry.{Entry}
-use Rattle.paxos_base.specs.declared.entry.Entry.TheVariants.{Noop, Start, End}
+use Rattle.paxos_base.specs.declared.entry.Entry.TheVariants.{Noop, Start, End, Table as TableEntry}
 use Rattle.due_set.specs.Table.{Table}
 use Rattle.cluster_sched.specs.declared.row.SchedRow.{SchedRow}
 use Rattle.launch_machine.specs.Clerk.{first_rows}
@@ -23,3 +23,4 @@ abbrev pub TakesEffectAt : Table → List Entry → (slot : ℕ) → Entry → T
 TakesEffectAt table log slot Noop = ⊤
 TakesEffectAt table log slot (Start job at now) = (slot ≤ length log) × TakesEffectAfter table (take slot log) (Start job at now)
 TakesEffectAt table log slot (End job at kind) = (slot ≤ length log) × TakesEffectAfter table (take slot log) (End job at kind)
+TakesEffectAt table log slot (TableEntry version now) = (slot ≤ length log) × TakesEffectAfter table (take slot log) (TableEntry version now)

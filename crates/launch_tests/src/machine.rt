@@ -34,7 +34,7 @@ fn can_count(machine: &Machine, table: &JobTable, entry: Entry) -> bool
 {
     match entry {
         Entry::End { job, .. } => job <= table.jobs() && has_room(machine.row(job)),
-        Entry::Noop | Entry::Start { .. } => true,
+        Entry::Noop | Entry::Start { .. } | Entry::Table { .. } => true,
     }
 }
 

@@ -210,20 +210,27 @@ stray_bytes packet p stray =
       | inl noop ↦ elim noop.1 [
         | inl job ↦ record { field = JobField; unused = noop.0; not_zero = λ e. job (job_zero packet p e) }
         | inr minutes ↦ elim minutes [
-          | inl at ↦ record { field = AtField; unused = noop.0; not_zero = λ e. at (at_zero packet p e) }
+          | inl at ↦ record { field = AtField; unused = inl noop.0; not_zero = λ e. at (at_zero packet p e) }
           | inr now ↦ record { field = NowField; unused = inl noop.0; not_zero = λ e. now (now_zero packet p e) }
         ]
       ]
-      | inr end ↦ record { field = NowField; unused = inr end.0; not_zero = λ e. end.1 (now_zero packet p e) }
+      | inr others ↦ elim others [
+        | inl end ↦ record { field = NowField; unused = inr end.0; not_zero = λ e. end.1 (now_zero packet p e) }
+        | inr table ↦ record { field = AtField; unused = inr table.0; not_zero = λ e. table.1 (at_zero packet p e) }
+      ]
     ]
 
 stray_at : (packet : List ℕ) → IsPacket packet → (field : Field) → LeavesUnused (tag_of packet) field → field_of packet field ≢ replicate (size_of field) 0 → HasStrayNumbers (numbers_in packet)
 stray_at packet p JobField unused stray = inl (unused, inl (λ e. stray (zero_job packet p e)))
-stray_at packet p AtField unused stray = inl (unused, inr (inl (λ e. stray (zero_at packet p e))))
+stray_at packet p AtField unused stray =
+    elim unused [
+      | inl noop ↦ inl (noop, inr (inl (λ e. stray (zero_at packet p e))))
+      | inr table ↦ inr (inr (table, λ e. stray (zero_at packet p e)))
+    ]
 stray_at packet p NowField unused stray =
     elim unused [
       | inl noop ↦ inl (noop, inr (inr (λ e. stray (zero_now packet p e))))
-      | inr end ↦ inr (end, λ e. stray (zero_now packet p e))
+      | inr end ↦ inr (inl (end, λ e. stray (zero_now packet p e)))
     ]
 stray_at packet p KindField unused stray = absurd unused
 stray_at packet p FromField unused stray = absurd unused

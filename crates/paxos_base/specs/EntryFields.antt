@@ -3,7 +3,7 @@ use Rattle.std.specs.Prelude.{◌≡◌, ◌≢◌, ◌⊎◌, ℕ, ◌<◌, ◌
 use Rattle.std.specs.Int.{w32, w64, to_be_bytes}
 use Rattle.paxos_base.specs.Packet.{Field, TagField, JobField, AtField, NowField, offset_of, size_of, field_of, minute_bytes}
 use Rattle.paxos_base.specs.declared.entry.Entry.{Entry}
-use Rattle.paxos_base.specs.declared.entry.Entry.TheVariants.{Noop, Start, End}
+use Rattle.paxos_base.specs.declared.entry.Entry.TheVariants.{Noop, Start, End, Table}
 use Rattle.paxos_base.specs.declared.entry.Kind.TheVariants.{Launch, Void}
 
 -- the numbers of an entry's four fields
@@ -23,6 +23,7 @@ numbers_of Noop = record { tag = 0; job = 0; at = pos 0; now = pos 0 }
 numbers_of (Start job at now) = record { tag = 1; job = job; at = at; now = now }
 numbers_of (End job at Launch) = record { tag = 2; job = job; at = at; now = pos 0 }
 numbers_of (End job at Void) = record { tag = 3; job = job; at = at; now = pos 0 }
+numbers_of (Table version now) = record { tag = 4; job = version; at = pos 0; now = now }
 
 -- the numbers fit their fields, as those of every entry of the program do
 pub record FitEntryFields (numbers : EntryNumbers) : Type 0 where
@@ -73,10 +74,10 @@ IsEntryField _ = ⊥
 abbrev pub tag_of : List ℕ → ℕ
 tag_of packet = slice_index packet (offset_of TagField)
 
--- An entry with this tag has no use for the field: a Noop for a job and minutes, an End for now.
+-- An entry with this tag has no use for the field: a Noop for a job and minutes, an End for now, a Table for at.
 abbrev pub LeavesUnused : ℕ → Field → Type 0
 LeavesUnused tag JobField = tag ≡ 0
-LeavesUnused tag AtField = tag ≡ 0
+LeavesUnused tag AtField = (tag ≡ 0) ⊎ (tag ≡ 4)
 LeavesUnused tag NowField = (tag ≡ 0) ⊎ ((tag ≡ 2) ⊎ (tag ≡ 3))
 LeavesUnused tag _ = ⊥
 
@@ -90,4 +91,5 @@ pub record HasStrayBytes (packet : List ℕ) : Type 0 where
 abbrev pub HasStrayNumbers : EntryNumbers → Type 0
 HasStrayNumbers numbers =
     ((numbers.tag ≡ 0) × ((numbers.job ≢ 0) ⊎ ((numbers.at ≢ pos 0) ⊎ (numbers.now ≢ pos 0))))
-    ⊎ (((numbers.tag ≡ 2) ⊎ (numbers.tag ≡ 3)) × (numbers.now ≢ pos 0))
+    ⊎ ((((numbers.tag ≡ 2) ⊎ (numbers.tag ≡ 3)) × (numbers.now ≢ pos 0))
+    ⊎ ((numbers.tag ≡ 4) × (numbers.at ≢ pos 0)))

@@ -39,6 +39,13 @@ pub enum Entry {
         /// How it ended.
         kind: Kind,
     },
+    /// The next version of the table is in force from now on.
+    Table {
+        /// The version, counted from 0.
+        version: u32,
+        /// The minute at which the leader decided so, since 1970-01-01 00:00 UTC.
+        now: i64,
+    },
 }
 
 /// A vote for an entry at a slot of the log, in a ballot.

@@ -9,7 +9,7 @@ use crate::layout::{AT, JOB, NOW, PACKET_BYTES, TAG, minute_at, put_bytes, put_m
 /// Why a packet's bytes are no entry.
 #[derive(Clone, Copy, Debug, PartialEq, Eq)]
 pub enum EntryFault {
-    /// The tag is above 3.
+    /// The tag is above 4.
     Tag,
     /// A field that the entry has no use for is not 0.
     NotZero,
@@ -26,14 +26,15 @@ pub fn numbers_of(entry: Entry) -> (u8, u32, i64, i64)
             Kind::Launch => (2, job, at, 0),
             Kind::Void => (3, job, at, 0),
         },
+        Entry::Table { version, now } => (4, version, 0, now),
     }
 }
 
-/// The entry that has these in its fields. A tag above 3 is reported as such, whatever the other fields are.
+/// The entry that has these in its fields. A tag above 4 is reported as such, whatever the other fields are.
 pub fn entry_of(tag: u8, job: u32, at: i64, now: i64) -> Result<Entry, EntryFault>
     ensures found { IfOk result (λ entry. numbers_of entry ≡ entry_numbers tag job at now) }
     ensures only { (entry : Entry) → numbers_of entry ≡ entry_numbers tag job at now → result ≡ Ok entry }
-    ensures tag { (result ≡ Err EntryFault.Tag) ↔ (3 < tag) }
+    ensures tag { (result ≡ Err EntryFault.Tag) ↔ (4 < tag) }
     ensures not_zero { (result ≡ Err EntryFault.NotZero) ↔ HasStrayNumbers (entry_numbers tag job at now) }
 {
     match tag {
@@ -51,6 +52,8 @@ pub fn entry_of(tag: u8, job: u32, at: i64, now: i64) -> Result<Entry, EntryFaul
             at,
             kind: Kind::Void,
         }),
+        4 if at != 0 => Err(EntryFault::NotZero),
+        4 => Ok(Entry::Table { version: job, now }),
         _ => Err(EntryFault::Tag),
     }
 }
@@ -68,7 +71,7 @@ pub fn put_entry(entry: Entry, into: &mut [u8; PACKET_BYTES])
     put_minute(into, NOW, now);
 }
 
-/// The entry in a packet's fields tag, job, at and now. A tag above 3 is reported as such, whatever the other fields
+/// The entry in a packet's fields tag, job, at and now. A tag above 4 is reported as such, whatever the other fields
 /// are.
 pub fn get_entry(from: &[u8; PACKET_BYTES]) -> Result<Entry, EntryFault>
     // What is read is spelled so.
@@ -76,7 +79,7 @@ pub fn get_entry(from: &[u8; PACKET_BYTES]) -> Result<Entry, EntryFault>
     ensures fits { IfOk result (λ entry. FitEntryFields (numbers_of entry)) }
     // What is spelled so is read.
     ensures only { (entry : Entry) → FitEntryFields (numbers_of entry) → entry_fields from.now ≡ entry_bytes entry → result ≡ Ok entry }
-    ensures tag { (result ≡ Err EntryFault.Tag) ↔ (3 < tag_of from.now) }
+    ensures tag { (result ≡ Err EntryFault.Tag) ↔ (4 < tag_of from.now) }
     ensures not_zero { (result ≡ Err EntryFault.NotZero) ↔ HasStrayBytes from.now }
 {
     entry_of(

@@ -7,7 +7,7 @@ use Rattle.std.proofs.lemmas.Bool.{and_from, and_parts, lt-ltb, eq-eqb, false≢
 use Rattle.paxos_base.specs.Ballot.{IsBallot, member_of, is_ballot_of}
 use Rattle.paxos_base.specs.Rows.{OpenHasCursor, OpenHaveCursors, AreNumbered}
 use Rattle.paxos_base.specs.declared.rows.JobRow.{JobRow}
-use Rattle.paxos_base.specs.declared.entry.Entry.TheVariants.{Noop, Start, End}
+use Rattle.paxos_base.specs.declared.entry.Entry.TheVariants.{Noop, Start, End, Table}
 use Rattle.paxos_base.specs.declared.entry.Kind.TheVariants.{Launch, Void}
 use Rattle.paxos_letter.specs.declared.group.Group.{Group}
 use Rattle.paxos_letter.specs.declared.packet.Packet.{Packet}
@@ -47,16 +47,19 @@ keeps_kind-packet from (OldVote ballot slot cast Noop) row = refl
 keeps_kind-packet from (OldVote ballot slot cast (Start job at now)) row = refl
 keeps_kind-packet from (OldVote ballot slot cast (End job at Launch)) row = refl
 keeps_kind-packet from (OldVote ballot slot cast (End job at Void)) row = refl
+keeps_kind-packet from (OldVote ballot slot cast (Table version now)) row = refl
 keeps_kind-packet from (Accept ballot slot Noop) row = refl
 keeps_kind-packet from (Accept ballot slot (Start job at now)) row = refl
 keeps_kind-packet from (Accept ballot slot (End job at Launch)) row = refl
 keeps_kind-packet from (Accept ballot slot (End job at Void)) row = refl
+keeps_kind-packet from (Accept ballot slot (Table version now)) row = refl
 keeps_kind-packet from (Accepted ballot slot) row = refl
 keeps_kind-packet from (Nack ballot promised) row = refl
 keeps_kind-packet from (Known slot Noop) row = refl
 keeps_kind-packet from (Known slot (Start job at now)) row = refl
 keeps_kind-packet from (Known slot (End job at Launch)) row = refl
 keeps_kind-packet from (Known slot (End job at Void)) row = refl
+keeps_kind-packet from (Known slot (Table version now)) row = refl
 keeps_kind-packet from (AskFrom slot) row = refl
 keeps_kind-packet from (Snap slot count) row = refl
 keeps_kind-packet from (SnapRow slot r) row = keeps_kind-row from slot r.job r.launched r.voided r.cursor r.open_now r.last row.0 row.1 row.2

@@ -16,7 +16,7 @@ same_numbers a b c d = cc
 abbrev NumbersBack : Fields → Type 0
 NumbersBack fields = has_row fields ≡ false → Clean fields → numbers_of (entry_of fields) ≡ entry_numbers fields.tag fields.job fields.at fields.moment
 
-numbers_from : (kind from tag third job ballot slot old : ℕ) (at moment last : ℤ) → tag ≤ 3 → NumbersBack (fields_from kind from tag third job ballot slot old at moment last)
+numbers_from : (kind from tag third job ballot slot old : ℕ) (at moment last : ℤ) → tag ≤ 4 → NumbersBack (fields_from kind from tag third job ballot slot old at moment last)
 numbers_from kind from zero third job ballot slot old at moment last below row clean =
     let fields : Fields = fields_from kind from 0 third job ballot slot old at moment last in
     same_numbers refl
@@ -30,7 +30,10 @@ numbers_from kind from (suc (suc zero)) third job ballot slot old at moment last
 numbers_from kind from (suc (suc (suc zero))) third job ballot slot old at moment last below row clean =
     let fields : Fields = fields_from kind from 3 third job ballot slot old at moment last in
     same_numbers refl refl refl (sym (clean.moment (start_uses (has_entry fields) (has_row fields) false (is_open fields) refl row)))
-numbers_from kind from (suc (suc (suc (suc tag)))) third job ballot slot old at moment last below row clean = absurd (omega arith)
+numbers_from kind from (suc (suc (suc (suc zero)))) third job ballot slot old at moment last below row clean =
+    let fields : Fields = fields_from kind from 4 third job ballot slot old at moment last in
+    same_numbers refl refl (sym (clean.at (noop_row (has_entry fields) (has_row fields) true (has_cursor fields) refl row))) refl
+numbers_from kind from (suc (suc (suc (suc (suc tag))))) third job ballot slot old at moment last below row clean = absurd (omega arith)
 
 -- ---- packets
 

@@ -1,6 +1,6 @@
 -- A packet by its fields: no two packets have the same, and each keeps its zeros.
 use Rattle.std.proofs.Common.{◌≡◌, ℕ, ℤ, true, List, [], ◌∷◌, map, Option, Some, None, refl, sym, ap, ◌∙◌}
-use Rattle.paxos_base.specs.declared.entry.Entry.TheVariants.{Noop, Start, End}
+use Rattle.paxos_base.specs.declared.entry.Entry.TheVariants.{Noop, Start, End, Table}
 use Rattle.paxos_base.specs.declared.entry.Kind.TheVariants.{Launch, Void}
 use Rattle.paxos_base.specs.declared.rows.JobRow.{JobRow}
 use Rattle.paxos_letter.specs.declared.packet.Packet.{Packet}
@@ -33,16 +33,19 @@ packet_of-fields_of from (OldVote ballot slot cast Noop) = refl
 packet_of-fields_of from (OldVote ballot slot cast (Start job at now)) = refl
 packet_of-fields_of from (OldVote ballot slot cast (End job at Launch)) = refl
 packet_of-fields_of from (OldVote ballot slot cast (End job at Void)) = refl
+packet_of-fields_of from (OldVote ballot slot cast (Table version now)) = refl
 packet_of-fields_of from (Accept ballot slot Noop) = refl
 packet_of-fields_of from (Accept ballot slot (Start job at now)) = refl
 packet_of-fields_of from (Accept ballot slot (End job at Launch)) = refl
 packet_of-fields_of from (Accept ballot slot (End job at Void)) = refl
+packet_of-fields_of from (Accept ballot slot (Table version now)) = refl
 packet_of-fields_of from (Accepted ballot slot) = refl
 packet_of-fields_of from (Nack ballot promised) = refl
 packet_of-fields_of from (Known slot Noop) = refl
 packet_of-fields_of from (Known slot (Start job at now)) = refl
 packet_of-fields_of from (Known slot (End job at Launch)) = refl
 packet_of-fields_of from (Known slot (End job at Void)) = refl
+packet_of-fields_of from (Known slot (Table version now)) = refl
 packet_of-fields_of from (AskFrom slot) = refl
 packet_of-fields_of from (Snap slot count) = refl
 packet_of-fields_of from (SnapRow slot row) = row_back from slot row.job row.launched row.voided row.cursor row.open_now row.last
@@ -75,16 +78,19 @@ fields_of-zeros from (OldVote ballot slot cast Noop) = refl
 fields_of-zeros from (OldVote ballot slot cast (Start job at now)) = refl
 fields_of-zeros from (OldVote ballot slot cast (End job at Launch)) = refl
 fields_of-zeros from (OldVote ballot slot cast (End job at Void)) = refl
+fields_of-zeros from (OldVote ballot slot cast (Table version now)) = refl
 fields_of-zeros from (Accept ballot slot Noop) = refl
 fields_of-zeros from (Accept ballot slot (Start job at now)) = refl
 fields_of-zeros from (Accept ballot slot (End job at Launch)) = refl
 fields_of-zeros from (Accept ballot slot (End job at Void)) = refl
+fields_of-zeros from (Accept ballot slot (Table version now)) = refl
 fields_of-zeros from (Accepted ballot slot) = refl
 fields_of-zeros from (Nack ballot promised) = refl
 fields_of-zeros from (Known slot Noop) = refl
 fields_of-zeros from (Known slot (Start job at now)) = refl
 fields_of-zeros from (Known slot (End job at Launch)) = refl
 fields_of-zeros from (Known slot (End job at Void)) = refl
+fields_of-zeros from (Known slot (Table version now)) = refl
 fields_of-zeros from (AskFrom slot) = refl
 fields_of-zeros from (Snap slot count) = refl
 fields_of-zeros from (SnapRow slot row) = row_zeros from slot row.job row.launched row.voided row.cursor row.open_now row.last

@@ -90,16 +90,16 @@ has_entry-row fields h =
       ]
     ]
 
-pub keeps_kind-entry : (fields : Fields) → keeps_kind fields ≡ true → has_entry fields ≡ true → fields.tag ≤ 3
+pub keeps_kind-entry : (fields : Fields) → keeps_kind fields ≡ true → has_entry fields ≡ true → fields.tag ≤ 4
 keeps_kind-entry fields h e =
     let parts = and_parts (leb 1 fields.kind && leb fields.kind 11) _ h in
-    let entry = and_parts (not (has_entry fields) || leb fields.tag 3) _ parts.1 in
+    let entry = and_parts (not (has_entry fields) || leb fields.tag 4) _ parts.1 in
     leb-true _ _ (implied (has_entry fields) _ entry.0 e)
 
 pub keeps_kind-row : (fields : Fields) → keeps_kind fields ≡ true → has_row fields ≡ true → fields.tag < 8
 keeps_kind-row fields h e =
     let parts = and_parts (leb 1 fields.kind && leb fields.kind 11) _ h in
-    let entry = and_parts (not (has_entry fields) || leb fields.tag 3) _ parts.1 in
+    let entry = and_parts (not (has_entry fields) || leb fields.tag 4) _ parts.1 in
     let row = implied (has_row fields) (keeps_row fields) entry.1 e in
     ltb-true _ _ (and_parts (ltb fields.tag 8) _ row).0
 
@@ -114,33 +114,35 @@ pub noop_row : (e r z bit : Bool) → z ≡ true → r ≡ false → ((e && not 
 noop_row true r z bit p q = rw (p, q) refl
 noop_row false r z bit p q = rw q refl
 
--- only a Start uses now
+-- only a Start and a Table use now
 pub start_uses : (e r one bit : Bool) → one ≡ false → r ≡ false → ((e && one) || (r && bit)) ≡ false
 start_uses true r one bit p q = rw (p, q) refl
 start_uses false r one bit p q = rw q refl
 
-not_one : (tag : ℕ) → (tag ≡ 0) ⊎ ((tag ≡ 2) ⊎ (tag ≡ 3)) → eqb tag 1 ≡ false
-not_one tag (inl e) = rw e refl
-not_one tag (inr (inl e)) = rw e refl
-not_one tag (inr (inr e)) = rw e refl
+has_no_now : (tag : ℕ) → (tag ≡ 0) ⊎ ((tag ≡ 2) ⊎ (tag ≡ 3)) → (eqb tag 1 || eqb tag 4) ≡ false
+has_no_now tag (inl e) = rw e refl
+has_no_now tag (inr (inl e)) = rw e refl
+has_no_now tag (inr (inr e)) = rw e refl
 
 no_stray : (fields : Fields) → has_entry fields ≡ true → Clean fields → HasStrayNumbers (entry_numbers fields.tag fields.job fields.at fields.moment) → ⊥
 no_stray fields h clean (inl (noop, stray)) =
     let row = has_entry-row fields h in
     let zero : eqb fields.tag 0 ≡ true = eq-eqb _ _ noop in
     let job = clean.job (noop_uses (has_entry fields) (has_row fields) (eqb fields.tag 0) zero row) in
-    let at = clean.at (noop_row (has_entry fields) (has_row fields) (eqb fields.tag 0) (has_cursor fields) zero row) in
-    let moment = clean.moment (start_uses (has_entry fields) (has_row fields) (eqb fields.tag 1) (is_open fields) (not_one _ (inl noop)) row) in
+    let at = clean.at (noop_row (has_entry fields) (has_row fields) (eqb fields.tag 0 || eqb fields.tag 4) (has_cursor fields) (rw zero refl) row) in
+    let moment = clean.moment (start_uses (has_entry fields) (has_row fields) (eqb fields.tag 1 || eqb fields.tag 4) (is_open fields) (has_no_now _ (inl noop)) row) in
     elim stray [
       | inl j ↦ j job
       | inr minutes ↦ elim minutes [ inl a ↦ a at | inr n ↦ n moment ]
     ]
-no_stray fields h clean (inr (end, stray)) =
-    stray (clean.moment (start_uses (has_entry fields) (has_row fields) (eqb fields.tag 1) (is_open fields) (not_one _ (inr end)) (has_entry-row fields h)))
+no_stray fields h clean (inr (inl (end, stray))) =
+    stray (clean.moment (start_uses (has_entry fields) (has_row fields) (eqb fields.tag 1 || eqb fields.tag 4) (is_open fields) (has_no_now _ (inr end)) (has_entry-row fields h)))
+no_stray fields h clean (inr (inr (table, stray))) =
+    stray (clean.at (noop_row (has_entry fields) (has_row fields) (eqb fields.tag 0 || eqb fields.tag 4) (has_cursor fields) (rw table refl) (has_entry-row fields h)))
 
 -- the fields of an entry that keep the rules have one
 pub has_no_fault : (fields : Fields) (fault : EntryFault) (at moment : ℤ) → has_entry fields ≡ true → keeps_kind fields ≡ true → keeps_zeros fields ≡ true
-    → at ≡ fields.at → moment ≡ fields.moment → (fault ≡ Tag → 3 < fields.tag) → (fault ≡ NotZero → HasStrayNumbers (entry_numbers fields.tag fields.job at moment)) → ⊥
+    → at ≡ fields.at → moment ≡ fields.moment → (fault ≡ Tag → 4 < fields.tag) → (fault ≡ NotZero → HasStrayNumbers (entry_numbers fields.tag fields.job at moment)) → ⊥
 has_no_fault fields Tag at moment h kind zeros p q tag stray = let above = tag refl in let within = keeps_kind-entry fields kind h in omega arith
 has_no_fault fields NotZero at moment h kind zeros p q tag stray =
     no_stray fields h (keeps_zeros-Clean fields zeros)

@@ -3,7 +3,7 @@ use Rattle.std.specs.Prelude.{ℕ, List, map, ◌==◌, if◌then◌else◌}
 use Rattle.std.specs.Bool.{then_some}
 use Rattle.std.specs.List.{AllByRecursion}
 use Rattle.paxos_base.specs.declared.entry.Entry.{Entry}
-use Rattle.paxos_base.specs.declared.entry.Entry.TheVariants.{Noop, Start, End}
+use Rattle.paxos_base.specs.declared.entry.Entry.TheVariants.{Noop, Start, End, Table}
 use Rattle.paxos_base.specs.declared.entry.Kind.TheVariants.{Launch, Void}
 use Rattle.paxos_base.specs.declared.rows.JobRow.{JobRow}
 use Rattle.paxos_letter.specs.declared.fields.Fields.{Fields}
@@ -24,7 +24,8 @@ entry_of fields =
     if fields.tag == 0 then Noop
     else if fields.tag == 1 then Start fields.job fields.at fields.moment
     else if fields.tag == 2 then End fields.job fields.at Launch
-    else End fields.job fields.at Void
+    else if fields.tag == 3 then End fields.job fields.at Void
+    else Table fields.job fields.moment
 
 -- the row that the fields spell
 abbrev pub row_of : Fields → JobRow

@@ -35,14 +35,22 @@ abbrev pub keeps_row : Fields → Bool
 keeps_row fields =
     nat_lt fields.tag 8 && ((not (is_open fields) || has_cursor fields) && (nat_lt fields.ballot (2 ^ 32) && nat_lt fields.old (2 ^ 32)))
 
--- there is such a kind, an entry's tag is at most 3, and a row keeps its rules
+-- there is such a kind, an entry's tag is at most 4, and a row keeps its rules
 abbrev pub keeps_kind : Fields → Bool
 keeps_kind fields =
-    (nat_le 1 fields.kind && nat_le fields.kind 11) && ((not (has_entry fields) || nat_le fields.tag 3) && (not (has_row fields) || keeps_row fields))
+    (nat_le 1 fields.kind && nat_le fields.kind 11) && ((not (has_entry fields) || nat_le fields.tag 4) && (not (has_row fields) || keeps_row fields))
 
 -- ---- a field that isn't used is 0
 
--- A packet of its kind, with its tag, uses the field. A Noop has no use for a job and minutes, an End for now.
+-- an entry of this tag says when its launch is due: a Noop and a Table don't
+abbrev pub says_at : Fields → Bool
+says_at fields = not ((fields.tag == 0) || (fields.tag == 4))
+
+-- an entry of this tag says when its leader decided so: a Start and a Table do
+abbrev pub says_now : Fields → Bool
+says_now fields = (fields.tag == 1) || (fields.tag == 4)
+
+-- A packet of its kind, with its tag, uses the field. A Noop has no use for a job and minutes, an End for now, a Table for at.
 abbrev pub uses : Fields → Field → Bool
 uses fields KindField = true
 uses fields FromField = true
@@ -53,8 +61,8 @@ uses fields BallotField = not ((fields.kind == known) || ((fields.kind == ask_fr
 uses fields SlotField = not (fields.kind == nack)
 uses fields OldField =
     (fields.kind == promise) || ((fields.kind == old_vote_kind) || ((fields.kind == nack) || ((fields.kind == snap) || (fields.kind == snap_row))))
-uses fields AtField = (has_entry fields && not (fields.tag == 0)) || (has_row fields && has_cursor fields)
-uses fields NowField = (has_entry fields && (fields.tag == 1)) || (has_row fields && is_open fields)
+uses fields AtField = (has_entry fields && says_at fields) || (has_row fields && has_cursor fields)
+uses fields NowField = (has_entry fields && says_now fields) || (has_row fields && is_open fields)
 uses fields LastField = has_row fields && has_last fields
 
 -- the field is 0

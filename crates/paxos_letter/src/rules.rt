@@ -1,4 +1,4 @@
-ghost use Rattle.std.specs.Prelude.{◌≡◌, ◌<◌, ◌==◌};
+ghost use Rattle.std.specs.Prelude.{true, ◌≡◌, ◌<◌, ◌==◌};
 ghost use Rattle.std.specs.Int.{bit_at};
 ghost use Rattle.std.specs.List.{list_all};
 ghost use Rattle.paxos_letter.specs.Rules.{has_entry, has_row, has_cursor, is_open, has_last, keeps_row, keeps_kind, keeps_zero, keeps_zeros, has_ballot, has_old_ballot, keeps_members, uses, number_fields, other_fields};
@@ -70,7 +70,7 @@ impl<'a> FieldsAt<'a> {
         ensures { result ≡ keeps_kind self.now }
     {
         (PREPARE..=LEAD).contains(&self.kind())
-            && (!self.has_entry() || self.tag() <= 3)
+            && (!self.has_entry() || self.tag() <= 4)
             && (!self.has_row() || self.keeps_row())
     }
 
@@ -95,14 +95,26 @@ impl<'a> FieldsAt<'a> {
             && (self.uses_old() || self.old() == 0)
     }
 
+    // Of an entry's fields, those are 0 that it has no use for.
+    fn keeps_entry_zeros(&self) -> bool
+        requires { has_entry self.now ≡ true }
+        ensures { result ≡ list_all (keeps_zero self.now) other_fields }
+    {
+        self.last() == 0
+            && match self.tag() {
+                0 => self.job() == 0 && self.at() == 0 && self.moment() == 0,
+                1 => true,
+                4 => self.at() == 0,
+                _ => self.moment() == 0,
+            }
+    }
+
     // Of the other fields, those are 0 that the packet's entry or row has no use for.
     fn keeps_other_zeros(&self) -> bool
         ensures { result ≡ list_all (keeps_zero self.now) other_fields }
     {
         if self.has_entry() {
-            (self.tag() != 0 || self.job() == 0 && self.at() == 0)
-                && (self.tag() == 1 || self.moment() == 0)
-                && self.last() == 0
+            self.keeps_entry_zeros()
         } else if self.has_row() {
             (self.has_cursor() || self.at() == 0)
                 && (self.is_open() || self.moment() == 0)

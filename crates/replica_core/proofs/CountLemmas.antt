@@ -7,7 +7,7 @@ use Rattle.due_set.specs.Table.{Table}
 use Rattle.paxos_base.specs.Rows.{fresh_row}
 use Rattle.launch_machine.specs.Clerk.{Applies, closed_row, opened_row}
 use Rattle.paxos_base.specs.declared.entry.Entry.{Entry}
-use Rattle.paxos_base.specs.declared.entry.Entry.TheVariants.{Noop, Start, End}
+use Rattle.paxos_base.specs.declared.entry.Entry.TheVariants.{Noop, Start, End, Table as TableEntry}
 use Rattle.paxos_base.specs.declared.entry.Kind.{Kind}
 use Rattle.paxos_base.specs.declared.entry.Kind.TheVariants.{Launch, Void}
 use Rattle.paxos_base.specs.declared.rows.JobRow.{JobRow}
@@ -32,6 +32,7 @@ counts_rise n rows counts = All-weaker (CountBelow n) (CountBelow (n + 1)) (one_
 pub counts_applied : (table : Table) (old : List JobRow) (entry : Entry) (new : List JobRow) (n : ℕ) → Applies table old entry new → CountsBelow n old → CountsBelow (n + 1) new
 counts_applied table old entry new n (inr (not, e)) counts = rw e (counts_rise n old counts)
 counts_applied table old Noop new n (inl (takes, e)) counts = absurd takes
+counts_applied table old (TableEntry version now) new n (inl (takes, e)) counts = absurd takes
 counts_applied table old (Start job at now) new n (inl (takes, e)) counts =
     let within = slice_get_within old job takes.row takes.is_row in
     let here : CountBelow n (get_or old job (fresh_row job)) = All-get_or (CountBelow n) old job (fresh_row job) within counts in
@@ -79,7 +80,9 @@ closed_more at Void row = omega arith
 pub highest-applied : (table : Table) (old : List JobRow) (entry : Entry) (new : List JobRow) → Applies table old entry new
     → highest_count new ≡ max (highest_count old) (count_ended new entry)
 highest-applied table old Noop new (inl (takes, e)) = absurd takes
+highest-applied table old (TableEntry version now) new (inl (takes, e)) = absurd takes
 highest-applied table old Noop new (inr (not, e)) = rw e (omega arith)
+highest-applied table old (TableEntry version now) new (inr (not, e)) = rw e (omega arith)
 highest-applied table old (Start job at now) new (inr (not, e)) = rw e (omega arith)
 highest-applied table old (Start job at now) new (inl (takes, e)) =
     let within = slice_get_within old job takes.row takes.is_row in

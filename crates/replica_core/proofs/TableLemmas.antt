@@ -9,7 +9,7 @@ use Rattle.std.proofs.lemmas.Option.{get_or_from_slice_get, slice_get-get_or, sl
 use Rattle.paxos_base.specs.declared.rows.TableSize.{TableSize}
 use Rattle.paxos_base.specs.Rows.{AreNumbered, EndsWithTable, OpenHasCursor, OpenHaveCursors, RowsStand, fresh_row, is_table_row, row_count}
 use Rattle.paxos_base.specs.declared.entry.Entry.{Entry}
-use Rattle.paxos_base.specs.declared.entry.Entry.TheVariants.{Noop, Start, End}
+use Rattle.paxos_base.specs.declared.entry.Entry.TheVariants.{Noop, Start, End, Table as TableEntry}
 use Rattle.paxos_base.specs.declared.entry.Kind.{Kind}
 use Rattle.paxos_base.specs.declared.entry.Kind.TheVariants.{Launch, Void}
 use Rattle.paxos_base.specs.declared.rows.JobRow.{JobRow}
@@ -63,6 +63,7 @@ ends-set rows size job row new is other ends = elim (cases_eq job size.jobs) [
 stand-one : (table : Table) (old new : List JobRow) (entry : Entry) → Applies table old entry new → RowsStand new (table_size table) → RowsStand old (table_size table)
 stand-one table old new entry (inr (not, same)) stand = subst (λ rows. RowsStand rows (table_size table)) same stand
 stand-one table old new Noop (inl (takes, is)) stand = absurd takes
+stand-one table old new (TableEntry version now) (inl (takes, is)) stand = absurd takes
 stand-one table old new (Start job at now) (inl (takes, is)) stand =
     let row = get_or_from_slice_get old job takes.row (fresh_row job) takes.is_row in
     let after = subst (λ rows. RowsStand rows (table_size table)) is stand in
@@ -141,6 +142,7 @@ closed-cursor at Void row some = absurd (false≢true some)
 cursors-one : (table : Table) (old new : List JobRow) (entry : Entry) → Applies table old entry new → OpenHaveCursors old → OpenHaveCursors new
 cursors-one table old new entry (inr (not, same)) cursors = rw same cursors
 cursors-one table old new Noop (inl (takes, is)) cursors = absurd takes
+cursors-one table old new (TableEntry version now) (inl (takes, is)) cursors = absurd takes
 cursors-one table old new (Start job at now) (inl (takes, is)) cursors =
     rw is (All-set OpenHasCursor old job (opened_row at now (get_or old job (fresh_row job))) (λ some. refl) cursors)
 cursors-one table old new (End job at kind) (inl (takes, is)) cursors =

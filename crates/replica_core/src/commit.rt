@@ -311,7 +311,7 @@ fn count_ended(machine: &Machine, table: &JobTable, entry: Entry) -> u32
                 0
             }
         }
-        Entry::Noop | Entry::Start { .. } => 0,
+        Entry::Noop | Entry::Start { .. } | Entry::Table { .. } => 0,
     }
 }
 

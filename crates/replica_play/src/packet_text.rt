@@ -37,6 +37,10 @@ impl Text {
                 self.put(" ")?;
                 self.put(word_of(*kind))
             }
+            Entry::Table { version, now } => {
+                self.put_number("version ", u64::from(*version))?;
+                self.put_stamp(" ", Minute(*now))
+            }
         }
     }
 

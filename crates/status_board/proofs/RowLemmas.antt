@@ -1,7 +1,7 @@
 -- What an entry changes in the rows: at most the row of its job.
 use Rattle.std.proofs.Common.{◌≡◌, ℕ, zero, suc, inl, inr, List, [], ◌∷◌, Some, slice_get, slice_set, sym, ◌∙◌, subst}
 use Rattle.paxos_base.specs.declared.entry.Entry.{Entry}
-use Rattle.paxos_base.specs.declared.entry.Entry.TheVariants.{Noop, Start, End}
+use Rattle.paxos_base.specs.declared.entry.Entry.TheVariants.{Noop, Start, End, Table as TableEntry}
 use Rattle.paxos_base.specs.declared.entry.Kind.TheVariants.{Launch, Void}
 use Rattle.paxos_base.specs.declared.rows.JobRow.{JobRow}
 use Rattle.due_set.specs.Table.{Table}
@@ -31,6 +31,7 @@ set_new old new own job row changed is done at =
 pub applied_one : (table : Table) (entry : Entry) (old new : List JobRow) (job : ℕ) (row : JobRow) → job_in entry ≡ Some job → Applies table old entry new
     → slice_get new job ≡ Some row → slice_set old job row ≡ new
 applied_one table Noop old new job row is done at = absurd cc
+applied_one table (TableEntry version now) old new job row is done at = absurd cc
 applied_one table (Start own when now) old new job row is (inl done) at = set_new old new own job row _ is done.1 at
 applied_one table (End own when Launch) old new job row is (inl done) at = set_new old new own job row _ is done.1 at
 applied_one table (End own when Void) old new job row is (inl done) at = set_new old new own job row _ is done.1 at

@@ -1,7 +1,7 @@
 -- How an operation of the writer changes what readers are shown.
 use Rattle.std.specs.Prelude.{ℕ, ◌==◌, List, if◌then◌else◌, length, slice_set, Option, None, Some}
 use Rattle.paxos_base.specs.declared.entry.Entry.{Entry}
-use Rattle.paxos_base.specs.declared.entry.Entry.TheVariants.{Noop, Start, End}
+use Rattle.paxos_base.specs.declared.entry.Entry.TheVariants.{Noop, Start, End, Table as TableEntry}
 use Rattle.paxos_base.specs.declared.rows.JobRow.{JobRow}
 use Rattle.status_board.specs.declared.change.Change.{Change}
 use Rattle.status_board.specs.declared.change.NewRows.{NewRows}
@@ -11,6 +11,7 @@ use Rattle.status_board.specs.Posted.{Posted}
 -- the job whose row an entry may change
 abbrev pub job_in : Entry → Option ℕ
 job_in Noop = None
+job_in (TableEntry version now) = None
 job_in (Start job at now) = Some job
 job_in (End job at kind) = Some job
 

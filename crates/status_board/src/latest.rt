@@ -24,7 +24,7 @@ fn job_of(entry: Entry) -> Option<u32>
     ensures { result ≡ job_in entry }
 {
     match entry {
-        Entry::Noop => None,
+        Entry::Noop | Entry::Table { .. } => None,
         Entry::Start { job, .. } | Entry::End { job, .. } => Some(job),
     }
 }

@@ -5,7 +5,7 @@ use Rattle.paxos_base.specs.Ballot.{member_of, round_of}
 use Rattle.paxos_base.specs.Members.{has_majority}
 use Rattle.paxos_base.specs.Vote.{vote_at, votes_from}
 use Rattle.paxos_base.specs.declared.entry.Entry.{Entry}
-use Rattle.paxos_base.specs.declared.entry.Entry.TheVariants.{Noop, Start, End}
+use Rattle.paxos_base.specs.declared.entry.Entry.TheVariants.{Noop, Start, End, Table as TableEntry}
 use Rattle.paxos_base.specs.declared.entry.Kind.{Kind}
 use Rattle.paxos_base.specs.declared.entry.Vote.{Vote}
 use Rattle.term_core.specs.declared.flight.Flight.{Flight}
@@ -129,6 +129,7 @@ pub record MayEnd (setting : Setting) (state : State) (job : ℕ) (at : ℤ) (ki
 -- the entries that a leader may propose of its own accord
 abbrev pub MayEnter : Setting → State → Entry → Type 0
 MayEnter setting state Noop = ⊤
+MayEnter setting state (TableEntry version now) = ⊥
 MayEnter setting state (Start job at now) = MayBeStarted setting state job at now
 MayEnter setting state (End job at kind) = MayEnd setting state job at kind
 

@@ -10,7 +10,7 @@ use Rattle.std.proofs.lemmas.List.{append-nil, take_at, length-append}
 use Rattle.paxos_base.specs.declared.rows.TableSize.{TableSize}
 use Rattle.paxos_base.specs.declared.durable.Durable.{Durable}
 use Rattle.paxos_base.specs.declared.entry.Entry.{Entry}
-use Rattle.paxos_base.specs.declared.entry.Entry.TheVariants.{Noop, Start as StartEntry, End}
+use Rattle.paxos_base.specs.declared.entry.Entry.TheVariants.{Noop, Start as StartEntry, End, Table as TableEntry}
 use Rattle.paxos_base.specs.declared.entry.Kind.TheVariants.{Launch, Void}
 use Rattle.paxos_base.specs.declared.rows.JobRow.{JobRow}
 use Rattle.paxos_letter.specs.declared.packet.Packet.{Packet}
@@ -93,7 +93,7 @@ record_decided body item =
 
 abbrev entry_from : ℕ → ℕ → ℤ → ℤ → Entry
 entry_from tag job at now =
-    if eqb tag 0 then Noop else if eqb tag 1 then StartEntry job at now else if eqb tag 2 then End job at Launch else End job at Void
+    if eqb tag 0 then Noop else if eqb tag 1 then StartEntry job at now else if eqb tag 2 then End job at Launch else if eqb tag 3 then End job at Void else TableEntry job now
 
 abbrev minute_if : ℕ → ℤ → Option ℤ
 minute_if bit minute = if eqb bit 1 then Some minute else None
@@ -130,6 +130,7 @@ vote_as slot ballot Noop = refl
 vote_as slot ballot (StartEntry job at now) = refl
 vote_as slot ballot (End job at Launch) = refl
 vote_as slot ballot (End job at Void) = refl
+vote_as slot ballot (TableEntry version now) = refl
 
 record_again : (item : Record) → record_as (record_kind item) (record_packet item) ≡ item
 record_again (Tried ballot) = refl

@@ -47,6 +47,15 @@ fn end_of(text: &str) -> Result<Entry, PlayFault> {
     })
 }
 
+// The adoption of a version, as `1 2024-03-31T00:30Z`.
+fn table_of(text: &str) -> Result<Entry, PlayFault> {
+    let (version, now) = split(text)?;
+    Ok(Entry::Table {
+        version: small_of(version)?,
+        now: minute_of(now)?.0,
+    })
+}
+
 fn entry_of(text: &str) -> Result<Entry, PlayFault> {
     if text == "noop" {
         Ok(Entry::Noop)
@@ -54,6 +63,8 @@ fn entry_of(text: &str) -> Result<Entry, PlayFault> {
         start_of(rest)
     } else if let Some(rest) = text.strip_prefix("end job ") {
         end_of(rest)
+    } else if let Some(rest) = text.strip_prefix("version ") {
+        table_of(rest)
     } else {
         Err(PlayFault::BadEntry)
     }

@@ -6,7 +6,7 @@ use Rattle.std.proofs.lemmas.Int.{ints}
 use Rattle.paxos_base.specs.Rows.{fresh_row}
 use Rattle.paxos_base.specs.Vote.{votes_from}
 use Rattle.paxos_base.specs.declared.entry.Entry.{Entry}
-use Rattle.paxos_base.specs.declared.entry.Entry.TheVariants.{Noop, Start, End}
+use Rattle.paxos_base.specs.declared.entry.Entry.TheVariants.{Noop, Start, End, Table as TableEntry}
 use Rattle.paxos_base.specs.declared.entry.Kind.{Kind}
 use Rattle.paxos_base.specs.declared.entry.Kind.TheVariants.{Launch, Void}
 use Rattle.paxos_base.specs.declared.entry.Vote.{Vote}
@@ -76,6 +76,7 @@ end_falls until at since Void row is = let one = ap open_one is in omega (arith,
 
 effect_falls : (table : Table) → IsSound table → (rows : List JobRow) (entry : Entry) → TakesEffect table rows entry → rows_work table.window.until.0 (rows_after rows entry) < rows_work table.window.until.0 rows
 effect_falls table sound rows Noop takes = absurd takes
+effect_falls table sound rows (TableEntry version now) takes = absurd takes
 effect_falls table sound rows (Start job at now) takes =
     rw (row_found rows job takes.row (fresh_row job) takes.is_row)
     (rows_fall table.window.until.0 rows job takes.row (opened_row at now takes.row) takes.is_row (falls takes.may))
