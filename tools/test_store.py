@@ -10,7 +10,7 @@ from unittest import mock
 from small_world.disk import Disk
 from small_world.files import BODY, base_bodies, kept_by
 from small_world.laws import Broken
-from small_world.launches import LAUNCH, NOOP, End, Row, Start
+from small_world.launches import LAUNCH, NOOP, VOID, End, Row, Start, Table, apply
 from small_world.letters import fault_of, letter_bytes, packets_in
 from small_world.replica import Accept, Accepted, AskFrom, Kept, Known, Lead, Nack, Prepare, Promise, Snap, Vote
 from small_world.store import text_of
@@ -31,8 +31,9 @@ OTHER_ROWS = [[Row()], [Row()] * 3, *([Row(), own] for own in OTHER_OWN)]
 PACKETS = [
     Known(0, NOOP),
     Known(1, Start(1, 20, 21)),
+    Known(2, Table(1, 22)),
     Nack(9, 17),
-    Promise(10, 3, {3: Vote(9, NOOP), 5: Vote(8, End(0, 40, LAUNCH))}),
+    Promise(10, 3, {3: Vote(9, NOOP), 5: Vote(8, End(0, 40, LAUNCH)), 6: Vote(8, Table(2**32 - 1, -1))}),
     Accepted(9, 2),
     AskFrom(7),
     Lead(9, 8),
@@ -74,6 +75,14 @@ class Stores(unittest.TestCase):
             self.assertEqual(told("attach", f"save base 1; {rows}", "keeps"), saved)
         for rows in ("row table", "row job 0; row job 1", "row job 0; row job 1; row table", "row job 0; row table, launched 1"):
             self.assertEqual(told("attach", f"save base 1; {rows}"), ["refused: the change may not follow what is kept"])
+
+    def test_a_vote_for_a_version(self):
+        """Its record has tag 4, the version in job and the minute in now."""
+        vote = "1.1 at 2 version 1 2024-03-31T00:30Z"
+        record = f"03000400{'00000001'}{'0000000000000009'}{'0000000000000002'}{16 * '00'}{'0000000001b3583e'}{8 * '00'}"
+        saved = "attach", f"save voted {vote}"
+        self.assertEqual(told(*saved, "stop", "files")[1], f"area 0 01{record}00")
+        self.assertEqual(told(*saved, "stop", "attach"), ["kept: tried 0, promised 1.1, base 0", f"vote {vote}", *FRESH[1:]])
 
     def test_rows_that_stand_for_nothing(self):
         def kept(rows):
@@ -117,6 +126,14 @@ class Nodes(unittest.TestCase):
         self.assertEqual(told("start", f"hear {PREPARE}{PREPARE}"), ["fault Letter(BadGroup { packet: 1 })"])
         self.assertEqual(told("start", "tick 2024-03-31T01:00Z")[0][:27], "refused: the stamp is outsi")
 
+    def test_an_adoption_takes_no_effect(self):
+        """It is learned, and the launch table stays as it is."""
+        known = letter_bytes(1, [Known(0, Table(1, 20))]).hex()
+        self.assertEqual(told("start", f"hear {known}"), ["learned 0: version 1 minute 20"])
+        rows = list(ROWS)
+        apply([], rows, Table(1, 22))
+        self.assertEqual(rows, ROWS)
+
     def test_snapshots(self):
         """A letter whose snapshot hasn't the rows of the table is heard as one without packets."""
         change = "delta base 5; row job 0, cursor minute 20, open minute 21, launched 1, voided 2; row table"
@@ -159,6 +176,25 @@ class Letters(unittest.TestCase):
         rows = [(2, 2, "BadKind"), (2, 8, "BadKind"), (11, 1, "BadKind"), (2, 1, "NotZero"), (7, 1, "BadGroup"), (1, 2, "BadMember")]
         for place, byte, name in rows:
             self.assertEqual(self.fault((56 + place, byte), packets=[Snap(5, [row])]), (name, 1), place)
+
+    def test_entries(self):
+        """A no-op uses no field, an end no now, an adoption no at; there is no tag above 4."""
+        start, table = Start(1, 20, 21), Table(1, 21)
+        entries = [
+            (start, (2, 5), "BadKind"),
+            (start, (2, 4), "NotZero"),
+            (start, (2, 2), "NotZero"),
+            (table, (39, 1), "NotZero"),
+            (table, (55, 1), "NotZero"),
+            (table, (2, 3), "NotZero"),
+            (table, (2, 5), "BadKind"),
+            (NOOP, (7, 1), "NotZero"),
+            (End(1, 20, VOID), (47, 1), "NotZero"),
+        ]
+        for entry, change, name in entries:
+            self.assertEqual(self.fault(change, packets=[Accept(9, 0, entry)]), (name, 0), (entry, change))
+        for place in (4, 7, 40, 47):
+            self.assertIsNone(self.fault((place, 255), packets=[Accept(9, 0, table)]), place)
 
     def test_groups(self):
         promise = Promise(10, 3, {3: Vote(9, NOOP)})

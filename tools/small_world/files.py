@@ -2,7 +2,7 @@
 where the disk stops within one of these, and what they stand for."""
 import struct
 
-from .launches import LAUNCH, NOOP, VOID, End, Row, Start, fresh_rows, rows_stand
+from .launches import LAUNCH, NOOP, VOID, End, Row, Start, Table, fresh_rows, rows_stand
 from .replica import Kept, Vote
 
 # Of a record the kind, from, the tag, 0, the job, the ballot, the slot, old, at, now and last; before it stands a gate.
@@ -48,12 +48,19 @@ def body(kind, tag=0, job=0, ballot=0, slot=0, old=0, at=0, now=0, last=0):
     return BODY.pack(kind, 0, tag, 0, job, ballot, slot, old, at, now, last)
 
 
-def vote_body(slot, ballot, entry):
+def entry_fields(entry):
+    """The fields that an entry fills, by their names."""
     if entry is NOOP:
-        return body(VOTED, ballot=ballot, slot=slot)
-    is_start = isinstance(entry, Start)
-    tag = 1 if is_start else 2 if entry.kind == LAUNCH else 3
-    return body(VOTED, tag, entry.job, ballot, slot, at=entry.at, now=entry.now if is_start else 0)
+        return {}
+    if isinstance(entry, Start):
+        return {"tag": 1, "job": entry.job, "at": entry.at, "now": entry.now}
+    if isinstance(entry, Table):
+        return {"tag": 4, "job": entry.version, "now": entry.now}
+    return {"tag": 2 if entry.kind == LAUNCH else 3, "job": entry.job, "at": entry.at}
+
+
+def vote_body(slot, ballot, entry):
+    return body(VOTED, ballot=ballot, slot=slot, **entry_fields(entry))
 
 
 def row_body(slot, job, row):
@@ -82,7 +89,9 @@ def base_bodies(kept, own, slot, rows):
 def entry_of(tag, job, at, now):
     if tag == 0:
         return NOOP
-    return Start(job, at, now) if tag == 1 else End(job, at, ENDS[tag])
+    if tag == 1:
+        return Start(job, at, now)
+    return Table(job, now) if tag == 4 else End(job, at, ENDS[tag])
 
 
 def row_of(record):

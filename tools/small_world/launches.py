@@ -20,6 +20,13 @@ class End(NamedTuple):
     kind: str
 
 
+class Table(NamedTuple):
+    """An entry of the log: a version of the table is adopted, as it was decided at a clock reading. It takes no effect yet."""
+
+    version: int
+    now: int
+
+
 # An entry of the log that does nothing.
 NOOP = None
 

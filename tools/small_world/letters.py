@@ -1,13 +1,15 @@
 """The bytes of letters, as docs/WIRE.md tells them: what packets come to, and what bytes say, or the first rule that they break."""
 from typing import NamedTuple
 
-from .files import BODY, entry_of
-from .launches import LAUNCH, NOOP, Row, Start
+from .files import BODY, entry_fields, entry_of
+from .launches import Row
 from .replica import Accept, Accepted, AskFrom, Known, Lead, Nack, Prepare, Promise, Snap, Vote
 
 PREPARE, PROMISE, VOTE, ACCEPT, ACCEPTED, NACK, KNOWN, ASK, SNAP, ROW, LEAD = range(1, 12)
 PLAIN = {PREPARE: Prepare, ACCEPTED: Accepted, LEAD: Lead}
 ENTRIES = {VOTE, ACCEPT, KNOWN}
+# What an entry uses beside its tag, by that tag.
+ENTRY_USES = [set(), {"job", "at", "now"}, {"job", "at"}, {"job", "at"}, {"job", "now"}]
 # Of the packets of these kinds a letter has one at most.
 ASKING = {PREPARE, ACCEPT, SNAP}
 
@@ -29,14 +31,6 @@ class Fields(NamedTuple):
 
 
 # From packets to bytes.
-
-
-def entry_fields(entry):
-    if entry is NOOP:
-        return {}
-    if isinstance(entry, Start):
-        return {"tag": 1, "job": entry.job, "at": entry.at, "now": entry.now}
-    return {"tag": 2 if entry.kind == LAUNCH else 3, "job": entry.job, "at": entry.at}
 
 
 def row_fields(job, row):
@@ -78,7 +72,7 @@ def letter_bytes(sender, packets):
 def keeps_kind(fields):
     """Whether the kind is one of the eleven, and an entry's tag and a row are as they may be."""
     if fields.kind in ENTRIES:
-        return fields.tag <= 3
+        return fields.tag <= 4
     if fields.kind == ROW:
         return fields.tag < 8 and fields.tag & 3 != 2 and max(fields.ballot, fields.old) < 2**32
     return PREPARE <= fields.kind <= LEAD
@@ -92,7 +86,7 @@ def used(fields):
     told |= {"slot"} if kind != NACK else set()
     told |= {"old"} if kind in (PROMISE, VOTE, NACK, SNAP, ROW) else set()
     if kind in ENTRIES:
-        return told | {"tag"} | ({"job", "at"} if tag else set()) | ({"now"} if tag == 1 else set())
+        return told | {"tag"} | ENTRY_USES[tag]
     if kind == ROW:
         return told | {"tag", "job"} | {name for place, name in enumerate(("at", "now", "last")) if tag >> place & 1}
     return told

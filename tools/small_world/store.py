@@ -6,7 +6,7 @@ from .disk import KEPT, Arm, Disk
 from .files import BODY, GATED, SHUT, Areas, kept_by, may_follow, record_of
 from .instants import Zone, minute_of, stamp_of
 from .jobs import Entry
-from .launches import NOOP, End, Row, Start, rows_stand
+from .launches import NOOP, End, Row, Start, Table, rows_stand
 from .laws import Broken
 from .letters import fault_of, letter_bytes, packets_in
 from .replica import Replica
@@ -126,7 +126,10 @@ def entry_of(text):
     """An entry, in the words in which one is written."""
     if text == "noop":
         return NOOP
-    kind, _, job, at, *rest = text.split(" ")
+    kind, *words = text.split(" ")
+    if kind == "version":
+        return Table(int(words[0]), minute_of(words[1]))
+    _, job, at, *rest = words
     if kind == "end":
         return End(int(job), minute_of(at), rest[0])
     return Start(int(job), minute_of(at), minute_of(rest[-1] if rest else at))

@@ -5,7 +5,7 @@ from collections import Counter
 
 from .files import BODY
 from .instants import stamp_of
-from .launches import LAUNCH, NOOP, VOID, End, Row, Start
+from .launches import LAUNCH, NOOP, VOID, End, Row, Start, Table
 from .letters import fault_of, letter_bytes
 from .made import IMAGES
 from .replica import Accept, Accepted, AskFrom, Known, Lead, Nack, Prepare, Promise, Snap, Vote
@@ -73,9 +73,12 @@ class Commands:
         return max(0, base + self.chance.choice([-1, 0, 0, 0, 1, 2, 5]))
 
     def entry(self):
+        at = FIRST + self.chance.choice([0, 0, 20, 40, 59, 60, -60])
+        if self.chance.random() < 0.2:
+            return Table(self.chance.choice([0, 1, 1, 2, 7, 2**32 - 1]), at)
         if not self.jobs or self.chance.random() < 0.3:
             return NOOP
-        job, at = self.chance.randrange(self.jobs), FIRST + self.chance.choice([0, 0, 20, 40, 59, 60, -60])
+        job = self.chance.randrange(self.jobs)
         if self.chance.random() < 0.5:
             return End(job, at, self.chance.choice([LAUNCH, VOID]))
         return Start(job, at, at + self.chance.choice([0, 0, 1, 7]))
@@ -160,9 +163,11 @@ class Commands:
         ])
 
     def seen(self):
-        """What came about, and how often: the changes that were kept and lost, and the first words of lines."""
+        """What came about, and how often: the changes that were kept and lost, the first words of lines, and adoptions of a version that
+        a store kept or a node learned."""
         first = Counter(" ".join(line.split()[:2]) for line in self.lines if line.startswith(("  fault", "  was", "  delta", "  call")))
-        return self.hand.disk.ends + first
+        adopted = [line.split()[0] for line in self.lines if line.startswith(("  vote", "  learned")) and " version " in line]
+        return self.hand.disk.ends + first + Counter(f"{word} version" for word in adopted)
 
     def text(self):
         return "\n".join([*self.lines, ""])

@@ -1,6 +1,6 @@
 """What packets, entries, terms and changes of a disk say, in the words of docs/SCENARIOS.md."""
 from .instants import stamp_of
-from .launches import NOOP, Start
+from .launches import NOOP, Start, Table
 from .replica import Accept, Accepted, AskFrom, Candidate, Follower, Known, Lead, Leader, Prepare, Promise, Snap
 
 
@@ -35,6 +35,8 @@ class Words:
     def entry(self, entry):
         if entry is NOOP:
             return "noop"
+        if isinstance(entry, Table):
+            return f"version {entry.version} {self.stamp(entry.now)}"
         title = self.title(entry.job, entry.at)
         return f"start {title}" if isinstance(entry, Start) else f"end {title} {entry.kind}"
 
