@@ -5,8 +5,8 @@ ghost use Rattle.paxos_base.specs.Members.{AllBelow, Meet};
 
 use crate::builders::{Cast, list_of};
 use paxos_base::{
-    Ballot, Entry, EntryFault, Kind, Members, PACKET_BYTES, get_entry, majorities_meet, majority,
-    place_of, put_entry, vote_at,
+    Ballot, Entry, EntryFault, Kind, Members, PACKET_BYTES, entry_of, get_entry, majorities_meet,
+    majority, place_of, put_entry, vote_at,
 };
 use std::cmp::Ordering;
 use std::test::*;
@@ -175,6 +175,28 @@ const ENTRIES: &[Spelled] = &[
             9, 9, 9,
         ],
     },
+    Spelled {
+        entry: Entry::Table {
+            version: 0x0102_0304,
+            now: MINUTE,
+        },
+        bytes: &[
+            9, 9, 4, 9, 1, 2, 3, 4, 9, 9, 9, 9, 9, 9, 9, 9, 9, 9, 9, 9, 9, 9, 9, 9, 9, 9, 9, 9, 9,
+            9, 9, 9, 0, 0, 0, 0, 0, 0, 0, 0, 0, 0, 0, 0, 0x01, 0xb3, 0x58, 0x5c, 9, 9, 9, 9, 9, 9,
+            9, 9,
+        ],
+    },
+    Spelled {
+        entry: Entry::Table {
+            version: 0,
+            now: -1,
+        },
+        bytes: &[
+            9, 9, 4, 9, 0, 0, 0, 0, 9, 9, 9, 9, 9, 9, 9, 9, 9, 9, 9, 9, 9, 9, 9, 9, 9, 9, 9, 9, 9,
+            9, 9, 9, 0, 0, 0, 0, 0, 0, 0, 0, 255, 255, 255, 255, 255, 255, 255, 255, 9, 9, 9, 9, 9,
+            9, 9, 9,
+        ],
+    },
 ];
 
 #[test]
@@ -184,6 +206,52 @@ fn entries_have_their_bytes(rt: HostRuntime) {
         let mut packet = [9; PACKET_BYTES];
         assert_eq!(rt; written_and_read(entry, &mut packet), Ok(entry));
         assert_eq!(rt; packet.as_slice(), row.bytes.as_slice(), "{entry:?}");
+    }
+}
+
+// The tag, the job and the two minutes of no entry, and why they are none.
+#[derive(Debug)]
+struct Strange {
+    fields: (u8, u32, i64, i64),
+    fault: EntryFault,
+}
+
+const STRANGE: &[Strange] = &[
+    Strange {
+        fields: (0, 0, 0, 1),
+        fault: EntryFault::NotZero,
+    },
+    Strange {
+        fields: (2, 1, MINUTE, -1),
+        fault: EntryFault::NotZero,
+    },
+    Strange {
+        fields: (3, 1, MINUTE, MINUTE),
+        fault: EntryFault::NotZero,
+    },
+    Strange {
+        fields: (4, 1, MINUTE, MINUTE),
+        fault: EntryFault::NotZero,
+    },
+    Strange {
+        fields: (4, 0, -1, 0),
+        fault: EntryFault::NotZero,
+    },
+    Strange {
+        fields: (5, 1, 0, MINUTE),
+        fault: EntryFault::Tag,
+    },
+    Strange {
+        fields: (255, 0, 0, 0),
+        fault: EntryFault::Tag,
+    },
+];
+
+#[test]
+fn fields_of_no_entry_are_refused(rt: HostRuntime) {
+    for row in STRANGE {
+        let (tag, job, at, now) = row.fields;
+        assert_eq!(rt; entry_of(tag, job, at, now), Err(row.fault), "{row:?}");
     }
 }
 

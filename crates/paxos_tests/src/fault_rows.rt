@@ -1,6 +1,7 @@
 //! Packets and letters that break a rule.
 use crate::letter_rows::{
-    ACCEPT, ACCEPTED, Bytes, LEAD, OLD_VOTE, PREPARE, PROMISE, SNAP, SNAP_ROW,
+    ACCEPT, ACCEPT_VERSION, ACCEPTED, Bytes, KNOWN_VERSION, LEAD, OLD_VOTE, PREPARE, PROMISE, SNAP,
+    SNAP_ROW,
 };
 use paxos_letter::LetterFault;
 
@@ -91,6 +92,55 @@ pub const REFUSED: &[Refused] = &[
             byte: 3,
         }],
         fault: LetterFault::NotZero { packet: 0 },
+    },
+    // An adoption of a version has no use for at, and there is no tag above its own.
+    Refused {
+        packets: &[Changed {
+            bytes: ACCEPT,
+            place: 2,
+            byte: 4,
+        }],
+        fault: LetterFault::NotZero { packet: 0 },
+    },
+    Refused {
+        packets: &[Changed {
+            bytes: ACCEPT_VERSION,
+            place: 32,
+            byte: 128,
+        }],
+        fault: LetterFault::NotZero { packet: 0 },
+    },
+    Refused {
+        packets: &[Changed {
+            bytes: KNOWN_VERSION,
+            place: 39,
+            byte: 1,
+        }],
+        fault: LetterFault::NotZero { packet: 0 },
+    },
+    Refused {
+        packets: &[Changed {
+            bytes: KNOWN_VERSION,
+            place: 55,
+            byte: 1,
+        }],
+        fault: LetterFault::NotZero { packet: 0 },
+    },
+    Refused {
+        packets: &[Changed {
+            bytes: KNOWN_VERSION,
+            place: 2,
+            byte: 3,
+        }],
+        fault: LetterFault::NotZero { packet: 0 },
+    },
+    Refused {
+        packets: &[Changed {
+            bytes: KNOWN_VERSION,
+            place: 2,
+            byte: 5,
+        }],
+        fault: LetterFault::BadKind { packet: 0 },
     },
     // What may stand where.
     Refused {

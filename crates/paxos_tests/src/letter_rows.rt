@@ -38,6 +38,16 @@ pub const KNOWN: &Bytes = &[
     0, 0, 0, 0, 0x01, 0xb3, 0x58, 0x5c, 0, 0, 0, 0, 0, 0, 0, 0, 0, 0, 0, 0, 0, 0, 0, 0,
 ];
 
+pub const KNOWN_VERSION: &Bytes = &[
+    7, 1, 4, 0, 0, 0, 0, 1, 0, 0, 0, 0, 0, 0, 0, 0, 0, 0, 0, 0, 0, 0, 0, 3, 0, 0, 0, 0, 0, 0, 0, 0,
+    0, 0, 0, 0, 0, 0, 0, 0, 0, 0, 0, 0, 0x01, 0xb3, 0x58, 0x5c, 0, 0, 0, 0, 0, 0, 0, 0,
+];
+
+pub const ACCEPT_VERSION: &Bytes = &[
+    4, 1, 4, 0, 0, 0, 1, 2, 0, 0, 0, 0, 0, 0, 0, 9, 0, 0, 0, 0, 0, 0, 0, 4, 0, 0, 0, 0, 0, 0, 0, 0,
+    0, 0, 0, 0, 0, 0, 0, 0, 255, 255, 255, 255, 255, 255, 255, 255, 0, 0, 0, 0, 0, 0, 0, 0,
+];
+
 pub const ASK_FROM: &Bytes = &[
     8, 1, 0, 0, 0, 0, 0, 0, 0, 0, 0, 0, 0, 0, 0, 0, 1, 0, 0, 0, 0, 0, 0, 3, 0, 0, 0, 0, 0, 0, 0, 0,
     0, 0, 0, 0, 0, 0, 0, 0, 0, 0, 0, 0, 0, 0, 0, 0, 0, 0, 0, 0, 0, 0, 0, 0,
@@ -100,6 +110,16 @@ pub const VECTORS: &[Vector] = &[
         from: 1,
         bytes: KNOWN,
         text: "Known { slot: 2, entry: End { job: 5, at: 28530780, kind: Launch } }",
+    },
+    Vector {
+        from: 1,
+        bytes: KNOWN_VERSION,
+        text: "Known { slot: 3, entry: Table { version: 1, now: 28530780 } }",
+    },
+    Vector {
+        from: 1,
+        bytes: ACCEPT_VERSION,
+        text: "Accept { ballot: Ballot(9), slot: 4, entry: Table { version: 258, now: -1 } }",
     },
     Vector {
         from: 1,
@@ -232,4 +252,5 @@ pub const LETTERS: &[&[&Bytes]] = &[
     &[ACCEPT],
     &[SNAP, SNAP_ROW],
     &[KNOWN, ACCEPTED, NACK, ASK_FROM, LEAD],
+    &[KNOWN, KNOWN_VERSION, ACCEPT_VERSION],
 ];

@@ -30,13 +30,17 @@ pub fn ballot_of(number: u32) -> Ballot {
 fn entry_of(slot: u32, number: u32) -> Entry {
     let at = i64::from(slot);
     let now = i64::from(number);
-    match number % 3 {
+    match number % 5 {
         0 => Entry::Noop,
         1 => Entry::Start { job: 1, at, now },
-        _ => Entry::End {
+        2 => Entry::End {
             job: number,
             at,
             kind: Kind::Void,
+        },
+        _ => Entry::Table {
+            version: number,
+            now: at,
         },
     }
 }

@@ -1,6 +1,6 @@
 //! The records of an area: their bytes, and what they stand for.
 use crate::change::ballot_of;
-use Item::{B, F, P, R, T, V};
+use Item::{A, B, F, P, R, T, V};
 use gate_file::Body56;
 use paxos_base::{Ballot, Durable, Entry, JobRow, PACKET_BYTES, RowList, TableSize, Vote};
 use std::alloc::{AllocError, Global};
@@ -14,13 +14,14 @@ const SIZE: TableSize = TableSize {
     last_version: 0,
 };
 
-// A record: a ballot of replica 0 by its round, a vote by its slot and its round, the base of slot 5 by how many rows follow,
-// a row of it by its job, and a fresh one, which the table's own may be.
+// A record: a ballot of replica 0 by its round, a vote by its slot and its round, such a one for the adoption of a version, the
+// base of slot 5 by how many rows follow, a row of it by its job, and a fresh one, which the table's own may be.
 #[derive(Clone, Copy, Debug)]
 enum Item {
     T(u32),
     P(u32),
     V(u64, u32),
+    A(u64, u32),
     B(u64),
     R(u32),
     F(u32),
@@ -38,6 +39,14 @@ fn record_of(item: Item) -> Record {
             slot,
             ballot: of_round(round),
             entry: Entry::Noop,
+        }),
+        A(slot, round) => Record::Voted(Vote {
+            slot,
+            ballot: of_round(round),
+            entry: Entry::Table {
+                version: 1,
+                now: 258,
+            },
         }),
         B(count) => Record::Base { slot: 5, count },
         R(job) => Record::Row {
@@ -84,6 +93,10 @@ const SPELLED: &[Spelled] = &[
     Spelled {
         item: V(7, 1),
         bytes: &[(0, 3), (15, 8), (23, 7)],
+    },
+    Spelled {
+        item: A(7, 1),
+        bytes: &[(0, 3), (2, 4), (7, 1), (15, 8), (23, 7), (46, 1), (47, 2)],
     },
     Spelled {
         item: B(2),
@@ -138,6 +151,16 @@ fn no_record_has_a_kind_beyond_the_last(rt: HostRuntime) {
     assert_eq!(rt; record_in(&spell(&[(0, 6), (15, 8)])), None);
 }
 
+// The adoption of a version has no use for at, and there is no tag above its own.
+#[test]
+fn no_vote_is_for_what_is_no_entry(rt: HostRuntime) {
+    assert_eq!(rt;
+        record_in(&spell(&[(0, 3), (2, 4), (15, 8), (39, 1)])),
+        None
+    );
+    assert_eq!(rt; record_in(&spell(&[(0, 3), (2, 5), (15, 8)])), None);
+}
+
 // Records, and what they stand for: the rounds of the replica's own ballot and of the promise, how many votes there are, and
 // the base; or the first record at fault.
 #[derive(Debug)]
@@ -164,7 +187,15 @@ const AREAS: &[Area] = &[
         want: Ok((2, 3, 2, 0)),
     },
     Area {
+        items: &[T(2), A(1, 2), V(0, 3), A(0, 4)],
+        want: Ok((2, 4, 2, 0)),
+    },
+    Area {
         items: &[P(3), V(0, 2)],
+        want: Err(1),
+    },
+    Area {
+        items: &[P(3), A(0, 2)],
         want: Err(1),
     },
     // the group of a base, which ends with the table's own row
@@ -219,7 +250,7 @@ const AREAS: &[Area] = &[
     },
     // a copy, and the log after it
     Area {
-        items: &[B(3), R(0), R(1), F(2), P(4), V(5, 3), V(6, 2)],
+        items: &[B(3), R(0), R(1), F(2), P(4), V(5, 3), A(6, 2)],
         want: Ok((0, 4, 2, 5)),
     },
     Area {
@@ -299,8 +330,8 @@ fn based(alloc: Global, log: &[Item], rows: &RowList) -> Result<Vec<Body56>, Fai
 #[test]
 fn a_base_has_a_copy_of_what_is_kept(rt: HostRuntime) -> Result<(), Fail> {
     let rows = RowList::fresh(rt.alloc(), SIZE)?;
-    let written = based(rt.alloc(), &[T(2), V(4, 3), V(6, 4), P(5)], &rows)?;
-    let want = bodies_of(rt.alloc(), &[B(3), F(0), F(1), F(2), T(2), P(5), V(6, 4)])?;
+    let written = based(rt.alloc(), &[T(2), V(4, 3), A(6, 4), P(5)], &rows)?;
+    let want = bodies_of(rt.alloc(), &[B(3), F(0), F(1), F(2), T(2), P(5), A(6, 4)])?;
     assert_eq!(rt; written, want);
     Ok(())
 }
