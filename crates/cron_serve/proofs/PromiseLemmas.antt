@@ -18,7 +18,7 @@ use Rattle.cron_serve.specs.declared.run_end.RunEnd.{RunEnd}
 use Rattle.cron_serve.specs.declared.words.Output.TheVariants.{Report}
 use Rattle.cron_serve.specs.declared.words.Request.{Request}
 use Rattle.cron_serve.specs.declared.words.Request.TheVariants.{Text}
-use Rattle.cron_serve.proofs.WholeLemmas.{all_launched, backed, each_ended, each_within_grace, fitting}
+use Rattle.cron_serve.proofs.WholeLemmas.{all_launched, each_ended, each_within_grace, fitting, may_be_started, periods_apart}
 
 module _ (bytes : List ℕ) (table : Table) (book : BookState) (nodes : List (Node MemDisk)) (run : IsRunOf bytes table book nodes) where
   each_due_ended : HasEachDue table book.ledger.held
@@ -26,8 +26,7 @@ module _ (bytes : List ℕ) (table : Table) (book : BookState) (nodes : List (No
 
   pub all_due : HasOnlyDue table book.ledger.held
   all_due row among =
-      let (now, start) = (backed bytes table book nodes run row among).start in
-      by_period_or_not table start.takes.0 row.name.job row.name.at now start.takes.2
+      let (start, now, may) = may_be_started bytes table book nodes run row among in by_period_or_not table start row.name.job row.name.at now may
 
   pub reports_launches : (text : List ℕ) → IsReport table book.members book.ledger.held text
       → ReportsLaunches table run.run.members run.run.commands text
@@ -37,7 +36,7 @@ module _ (bytes : List ℕ) (table : Table) (book : BookState) (nodes : List (No
     once = (fitting bytes table book nodes run).once;
     ended = each_due_ended;
     due = all_due;
-    apart = (fitting bytes table book nodes run).apart;
+    apart = periods_apart bytes table book nodes run;
     in_grace = λ long job at due. each_within_grace bytes table book nodes run job at long due;
     undisturbed = λ none. all_launched bytes table book nodes run none;
   }

@@ -8,16 +8,20 @@ use Rattle.paxos_base.specs.declared.entry.Entry.{Entry}
 use Rattle.paxos_base.specs.declared.entry.Entry.TheVariants.{Noop}
 use Rattle.paxos_base.specs.declared.entry.Kind.{Kind}
 use Rattle.paxos_base.specs.declared.entry.Kind.TheVariants.{Launch}
+use Rattle.paxos_base.specs.declared.rows.JobRow.{JobRow}
 use Rattle.due_set.specs.Anacron.{IsPeriodOver}
 use Rattle.due_set.specs.Due.{IsRising}
 use Rattle.due_set.specs.Table.{Job, Table, IsJobDue}
 use Rattle.due_set.specs.declared.job.JobKind.TheVariants.{Anacron}
 use Rattle.due_set.specs.declared.job.Period.{Period}
 use Rattle.cluster_sched.specs.declared.row.SchedRow.{SchedRow}
-use Rattle.launch_safety.specs.Fits.{Fits, HasStart, HasEnd, IsBacked, IsEffective, IsHeld}
+use Rattle.launch_safety.specs.Fits.{Fits, HasStart, HasEnd, IsBacked, IsEffective, IsHeld, IsStartedUnder}
 use Rattle.launch_safety.specs.Launched.{IsCalledAt, IsWanted, LaunchesEachDue, OpensBy}
 use Rattle.due_list.proofs.ListLemmas.{cut_at}
+use Rattle.launch_safety.proofs.EffectLemmas.{was_started}
 use Rattle.launch_safety.proofs.FitLemmas.{held_once}
+use Rattle.launch_safety.proofs.Whole.{effective_may, first_started}
+use Rattle.launch_machine.specs.Clerk.{MayStart, first_force}
 use Rattle.launch_machine.specs.Starts.{StartsOf}
 use Rattle.replica_node.specs.declared.node.Node.{Node}
 use Rattle.script_text.specs.declared.command.Command.{Command}
@@ -29,6 +33,7 @@ use Rattle.world_law.specs.Book.{BookState}
 use Rattle.world_law.proofs.Called.{held_at_rest}
 use Rattle.run_outcome.specs.Barred.{IsBarred}
 use Rattle.run_outcome.proofs.WholeDates.{all_unscripted, date_unscripted, due_unscripted, each_date, other_unscripted}
+use Rattle.cron_serve.specs.Promise.{HasPeriodsApart}
 use Rattle.cron_serve.specs.Serve.{IsRunOf}
 use Rattle.cron_serve.proofs.PlayLemmas.{few_members}
 
@@ -47,8 +52,26 @@ module _ (bytes : List ℕ) (table : Table) (book : BookState) (nodes : List (No
   pub once : (a b : SchedRow) → Contains book.ledger.held a → Contains book.ledger.held b → a.name.job ≡ b.name.job → a.name.at ≡ b.name.at → a ≡ b
   once a b in_a in_b jobs instants = held_once table run.whole.log book.ledger.held a b fitting in_a in_b jobs instants
 
-  pub backed : (row : SchedRow) → Contains book.ledger.held row → IsBacked table run.whole.log row
-  backed row among = All-contains (IsBacked table run.whole.log) book.ledger.held row fitting.backed among
+  few : run.run.members ≤ 7
+  few = few_members bytes run.run table run.taken
+
+  -- each launch was started under the first version
+  under_first : (version job : ℕ) (at : ℤ) → IsStartedUnder table run.whole.log version job at → version ≡ 0
+  under_first version job at start = first_started run.run.members table run.rows run.whole.log version job at few run.whole.legal run.whole.is_log start
+
+  row_backed : (row : SchedRow) → Contains book.ledger.held row → IsBacked table run.whole.log row
+  row_backed row among = All-contains (IsBacked table run.whole.log) book.ledger.held row fitting.backed among
+
+  pub backed : (row : SchedRow) → Contains book.ledger.held row → (backed : IsBacked table run.whole.log row) × (backed.version ≡ 0)
+  backed row among = let is = row_backed row among in (is, under_first is.version row.name.job row.name.at is.start)
+
+  -- a row's launch may be started by it
+  pub may_be_started : (row : SchedRow) → Contains book.ledger.held row
+      → (start : JobRow) × (now : ℤ) × MayStart table first_force row.name.job start row.name.at now
+  may_be_started row among =
+      let is = row_backed row among in
+      let (now, start) = was_started table run.whole.log is.version row.name.job row.name.at is.start in
+      (start.takes.2.row, now, effective_may run.run.members table run.rows few run.whole.legal run.whole.log run.whole.is_log row.name.job row.name.at now start)
 
   pub end_held : (job : ℕ) (at : ℤ) (kind : Kind) → HasEnd table run.whole.log job at kind → IsHeld book.ledger.held job at kind
   end_held job at kind ended = fitting.ended job at kind ended
@@ -73,10 +96,17 @@ module _ (bytes : List ℕ) (table : Table) (book : BookState) (nodes : List (No
   pub dates_rise : (job : ℕ) → (dates : List ℤ) × StartsOf table run.whole.log job dates × IsRising dates
   dates_rise job = let order = fitting.in_order job in (order.instants, order.starts, order.rising)
 
+  pub periods_apart : HasPeriodsApart table book.ledger.held
+  periods_apart a b in_a in_b jobs one other sooner =
+      let is = row_backed b in_b in
+      let start = subst (λ version. IsStartedUnder table run.whole.log version b.name.job b.name.at) (under_first is.version b.name.job b.name.at is.start) is.start in
+      fitting.apart a b in_a in_b jobs one other sooner 0 start
+
   pub dates_apart : (a b : SchedRow) (job : Job) (period : Period) (first last : ℕ)
       → Contains book.ledger.held a → Contains book.ledger.held b → a.name.job ≡ b.name.job → a.kind ≡ Launch → b.kind ≡ Launch → a.name.at <ℤ b.name.at
       → slice_get table.jobs a.name.job ≡ Some job → job.kind ≡ Anacron period first last → IsPeriodOver period a.name.at b.name.at
-  dates_apart a b job period first last in_a in_b jobs one other sooner is_job kind = fitting.apart a b in_a in_b jobs one other sooner job period first last is_job kind
+  dates_apart a b job period first last in_a in_b jobs one other sooner is_job kind =
+      periods_apart a b in_a in_b jobs one other sooner job period first last (subst (λ number. slice_get table.jobs number ≡ Some job) jobs is_job) kind
 
   pub each_opened : (job : ℕ) (now date : ℤ) → OpensBy table book.ledger.held job now date → AreTurnsBy now (script_turns run.whole.obeyed)
       → IsCalledAt book.ledger.held job date Launch now ⊎ IsBarred run.run.members table run.rows job now date
@@ -87,9 +117,6 @@ module _ (bytes : List ℕ) (table : Table) (book : BookState) (nodes : List (No
 
   -- the script has no command
   module _ (none : run.run.commands ≡ []) where
-    few : run.run.members ≤ 7
-    few = few_members bytes run.run table run.taken
-
     walks : Obeys run.run.members table [] run.rows
     walks = subst (λ (script : List Command). Obeys run.run.members table script run.rows) none run.whole.obeyed
 

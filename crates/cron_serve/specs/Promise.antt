@@ -1,13 +1,14 @@
 -- What is promised of a report, in bytes and text alone: which launches it tells of.
-use Rattle.std.specs.Prelude.{◌≡◌, ◌⊎◌, ℕ, List, [], ℤ, Contains}
+use Rattle.std.specs.Prelude.{◌≡◌, ◌⊎◌, ℕ, List, [], ℤ, ◌<ℤ◌, Contains}
 use Rattle.cron_io.specs.Reading.{IsReadToEnd}
 use Rattle.cron_io.specs.Views.{SourceView, SinkView}
 use Rattle.cron_io.specs.Writing.{HasGained}
 use Rattle.paxos_base.specs.declared.entry.Kind.{Kind}
+use Rattle.paxos_base.specs.declared.entry.Kind.TheVariants.{Launch}
 use Rattle.due_set.specs.Table.{Table, IsJobDue, IsRunByPeriod}
 use Rattle.cluster_sched.specs.Held.{AreNamedOnce}
 use Rattle.cluster_sched.specs.declared.row.SchedRow.{SchedRow}
-use Rattle.launch_safety.specs.Fits.{ArePeriodsApart, IsHeld}
+use Rattle.launch_safety.specs.Fits.{IsHeld, IsPeriodApart}
 use Rattle.launch_safety.specs.Launched.{LaunchesEachDue}
 use Rattle.report_text.specs.Report.{IsReport}
 use Rattle.run_outcome.specs.Readings.{IsGraceLong}
@@ -25,6 +26,12 @@ abbrev pub HasOnlyDue : Table → List SchedRow → Type 0
 HasOnlyDue table rows =
     (row : SchedRow) → Contains rows row → IsJobDue table 0 row.name.job row.name.at ⊎ IsRunByPeriod table row.name.job
 
+-- of two launches of a job of an anacrontab the later is a period after the earlier
+abbrev pub HasPeriodsApart : Table → List SchedRow → Type 0
+HasPeriodsApart table rows =
+    (a b : SchedRow) → Contains rows a → Contains rows b → a.name.job ≡ b.name.job → a.kind ≡ Launch → b.kind ≡ Launch → a.name.at <ℤ b.name.at
+    → IsPeriodApart table 0 b.name.job a.name.at b.name.at
+
 -- **The text is the report of these launches**: each stands there once, and each due instant has ended.
 pub record ReportsLaunches (table : Table) (members : ℕ) (script : List Command) (text : List ℕ) : Type 0 where
   -- the text lists these rows: what was launched, and what was given up
@@ -35,8 +42,8 @@ pub record ReportsLaunches (table : Table) (members : ℕ) (script : List Comman
   -- each due instant of each crontab's job is among them, and no other instant of such a job
   pub ended : HasEachDue table rows
   pub due : HasOnlyDue table rows
-  -- of two launches of a job of an anacrontab the later is a period after the earlier
-  pub apart : ArePeriodsApart table rows
+  -- the launches of each job of an anacrontab are a period apart
+  pub apart : HasPeriodsApart table rows
   -- if grace lasts as long as the window, each due instant is launched
   pub in_grace : IsGraceLong table → HoldsEachDue table rows
   -- and if the script has no command, so it is, each date on which a job of an anacrontab may open too, and nothing is given up

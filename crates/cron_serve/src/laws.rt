@@ -219,13 +219,14 @@ pub fn a_refusal_is_that_of_the_bytes()
         → old.left ≡ Some bytes → IsRefusedInput output bytes refusal }
 {}
 
-/// Of what the book of a run holds: no launch is held twice; each was started in the log, its instant had come when it was called, and its
-/// kind goes by that clock; and what an end says that takes effect is held. Nothing in the log is ignored but the no-ops.
+/// Of what the book of a run holds: no launch is held twice; each was started in the log under the table's first version, its instant had
+/// come when it was called, and its kind goes by that clock; and what an end says that takes effect is held. Nothing in the log is ignored
+/// but the no-ops.
 pub fn a_run_holds_each_launch_once()
     ensures once { (bytes : List ℕ) (table : Table) (book : BookState) (nodes : List (Node MemDisk)) (a b : SchedRow) → IsRunOf bytes table book nodes
         → Contains book.ledger.held a → Contains book.ledger.held b → a.name.job ≡ b.name.job → a.name.at ≡ b.name.at → a ≡ b }
     ensures started { (bytes : List ℕ) (table : Table) (book : BookState) (nodes : List (Node MemDisk)) (run : IsRunOf bytes table book nodes) (row : SchedRow)
-        → Contains book.ledger.held row → IsBacked table run.whole.log row }
+        → Contains book.ledger.held row → (backed : IsBacked table run.whole.log row) × (backed.version ≡ 0) }
     ensures ended { (bytes : List ℕ) (table : Table) (book : BookState) (nodes : List (Node MemDisk))
         (run : IsRunOf bytes table book nodes) (job : ℕ) (at : ℤ) (kind : Kind)
         → HasEnd table run.whole.log job at kind → IsHeld book.ledger.held job at kind }

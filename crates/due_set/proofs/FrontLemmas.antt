@@ -14,7 +14,7 @@ not_before_first x xs t rising h = elim (Contains-cases x xs t h) [
 ]
 
 -- a rising list that leaves out none of another's members up to its own last one is the other's beginning
-rising_prefix : (xs ys : List ℤ) → IsRising xs → IsRising ys → ((t : ℤ) → Contains xs t → Contains ys t)
+pub rising_prefix : (xs ys : List ℤ) → IsRising xs → IsRising ys → ((t : ℤ) → Contains xs t → Contains ys t)
     → ((t last : ℤ) → Contains xs last → Contains ys t → t ≤ℤ last → Contains xs t) → (rest : List ℤ) × (ys ≡ xs ++ rest)
 rising_prefix [] ys a b within none_left = (ys, refl)
 rising_prefix (x ∷ xs) [] a b within none_left = absurd (Contains-none x (within x (Contains-head x xs)))

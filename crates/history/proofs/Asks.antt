@@ -141,7 +141,7 @@ abbrev pub end_entry : ℕ → Entry
 end_entry k = entry.End 0 (minute k) Launch
 
 takes_start : (k : ℕ) → k < 33 → TakesStart busy (with_table (idle k)) 0 (minute k) (minute k)
-takes_start k within = record { row = idle k; is_row = refl; idle = refl; may = inl (next k within, omega (arith, ints)) }
+takes_start k within = record { known = lit< tt; row = idle k; is_row = refl; idle = refl; may = inl (next k within, omega (arith, ints)) }
 
 pub start_applies : (k : ℕ) → k < 33 → Applies busy (with_table (idle k)) (start_entry k) (with_table (opened k))
 start_applies k within = inl (takes_start k within, refl)
@@ -163,7 +163,7 @@ no_call k now (suc (suc job)) at may = let none : None ≡ Some may.row = may.is
 pub start_asked : (k : ℕ) → k < 33 → IsIntent busy (with_table (idle k)) (minute k) (intent.Start 0 (minute k))
 start_asked k within = (no_call k (minute k), record { takes = takes_start k within; first = λ before other less it. nothing_below before less })
 
-on_time : (k : ℕ) → IsCallKind busy 0 (minute k) (minute k) Launch
+on_time : (k : ℕ) → IsCallKind busy 0 0 (minute k) (minute k) Launch
 on_time k spec zone is_in =
     let same : only_job ≡ spec = cc_some only_job spec is_in.is_job in
     subst (λ (job : Job). (Launch ≡ Launch) ↔ IsOnTime job.kind zone 0 (minute k) (minute k)) same ((λ it. omega (arith, ints)), (λ it. refl))
@@ -174,7 +174,7 @@ on_time k spec zone is_in =
 pub call_asked : (k : ℕ) → IsIntent busy (with_table (opened k)) (minute k) (intent.Call 0 (minute k) Launch)
 call_asked k = (
   record {
-    may = record { row = opened k; is_row = refl; since = minute k; is_open = refl; cursor = refl; spec = only_job; zone = utc.0; is_in = job_in; come = omega (arith, ints) };
+    may = record { known = lit< tt; row = opened k; is_row = refl; since = minute k; is_open = refl; cursor = refl; spec = only_job; zone = utc.0; is_in = job_in; come = omega (arith, ints) };
     first = λ before other less may. nothing_below before less;
   },
   on_time k,

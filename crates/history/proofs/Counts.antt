@@ -9,7 +9,7 @@ use Rattle.paxos_base.specs.declared.entry.Kind.{Kind}
 use Rattle.paxos_base.specs.declared.entry.Kind.TheVariants.{Launch, Void}
 use Rattle.paxos_base.specs.declared.rows.JobRow.{JobRow}
 use Rattle.due_set.specs.Table.{Table}
-use Rattle.launch_machine.specs.Clerk.{Applies, AppliesAll, closed_row, first_rows, opened_row, table_size}
+use Rattle.launch_machine.specs.Clerk.{Applies, AppliesAll, adopted_row, closed_row, first_rows, opened_row, table_size}
 use Rattle.history.specs.Numbers.{AreRowsBelow, AreRowsWithin}
 use Rattle.due_set.proofs.Rising.{Contains-head as in_first, Contains-tail as in_rest}
 
@@ -47,7 +47,11 @@ row_within most rows job within = row_at most rows job (fresh_row job) (omega ar
 
 after_within : (table : Table) (most : ℕ) (rows : List JobRow) (entry : Entry) (middle : List JobRow) → AreRowsWithin most rows → Applies table rows entry middle → AreRowsWithin (most + 1) middle
 after_within table most rows Noop middle within (inl (takes, is)) = absurd takes
-after_within table most rows (TableEntry version now) middle within (inl (takes, is)) = absurd takes
+after_within table most rows (TableEntry version now) middle within (inl (takes, is)) =
+    let own : ℕ = length table.jobs in
+    let old = row_within most rows own within in
+    let new : CountsWithin (most + 1) (adopted_row version now (get_or rows own (fresh_row own))) = (omega (arith, old.0, takes.next), omega (arith, old.1)) in
+    rw is (All-set (CountsWithin (most + 1)) rows own (adopted_row version now (get_or rows own (fresh_row own))) new (rows_more most (most + 1) rows (omega arith) within))
 after_within table most rows (Start job at now) middle within (inl (takes, is)) =
     let up = rows_more most (most + 1) rows (omega arith) within in
     rw is (All-set (CountsWithin (most + 1)) rows job (opened_row at now (get_or rows job (fresh_row job))) (row_within (most + 1) rows job up) up)

@@ -6,7 +6,7 @@ use Rattle.std.proofs.lemmas.List.{length-set}
 use Rattle.std.proofs.lemmas.List.Elements.{All-contains}
 use Rattle.paxos_base.specs.declared.rows.TableSize.{TableSize}
 use Rattle.paxos_base.specs.Ballot.{round_of}
-use Rattle.paxos_base.specs.Rows.{fits_table, fresh_row, row_count}
+use Rattle.paxos_base.specs.Rows.{RowsStand, fits_table, fresh_row, row_count}
 use Rattle.paxos_base.specs.declared.entry.Entry.{Entry}
 use Rattle.paxos_base.specs.declared.entry.Entry.TheVariants.{Noop, Start, End, Table as TableEntry}
 use Rattle.paxos_base.specs.declared.entry.Vote.{Vote}
@@ -17,7 +17,7 @@ use Rattle.paxos_letter.specs.declared.packet.Packet.TheVariants as packet
 use Rattle.paxos_letter.proofs.LetterLemmas.{letter_again, letters_have_packets}
 use Rattle.paxos_letter.proofs.PacketBack.{same_packets}
 use Rattle.due_set.specs.Table.{IsSound, Table}
-use Rattle.launch_machine.specs.Clerk.{Applies, AppliesAll, closed_row, first_rows, opened_row, table_size}
+use Rattle.launch_machine.specs.Clerk.{Applies, AppliesAll, adopted_row, closed_row, first_rows, opened_row, table_size}
 use Rattle.step_spec.specs.Heard.{heard_as, old_vote, packets_of}
 use Rattle.step_spec.specs.Letters.{IsHeardAs, are_small, is_small, is_small_ballot, is_small_letter, is_small_slot}
 use Rattle.step_spec.specs.May.{HasSaid}
@@ -30,7 +30,8 @@ use Rattle.history.specs.Legal.{IsLegal}
 use Rattle.history.specs.Numbers.{AreRowsBelow, IsMessageWithin, IsVoteWithin}
 use Rattle.history.proofs.BookLemmas.{stands}
 use Rattle.history.proofs.Launched.{few_launched}
-use Rattle.history.proofs.TableRows.{HasFirstVersion, clerk_first_version, first_version_fits}
+use Rattle.history.proofs.TableRows.{rows_fit}
+use Rattle.launch_machine.proofs.VersionRows.{clerk_stands}
 use Rattle.history.proofs.Within.{message_within}
 use Rattle.due_set.proofs.Rising.{Contains-head as in_first, Contains-tail as in_rest}
 
@@ -38,7 +39,8 @@ use Rattle.due_set.proofs.Rising.{Contains-head as in_first, Contains-tail as in
 
 pub Applies-length : (table : Table) (rows : List JobRow) (entry : Entry) (middle : List JobRow) → Applies table rows entry middle → length middle ≡ length rows
 Applies-length table rows Noop middle (inl (takes, is)) = absurd takes
-Applies-length table rows (TableEntry version now) middle (inl (takes, is)) = absurd takes
+Applies-length table rows (TableEntry version now) middle (inl (takes, is)) =
+    let own : ℕ = length table.jobs in ap length is ∙ length-set rows own (adopted_row version now (get_or rows own (fresh_row own)))
 Applies-length table rows (Start job at now) middle (inl (takes, is)) = ap length is ∙ length-set rows job (opened_row at now (get_or rows job (fresh_row job)))
 Applies-length table rows (End job at kind) middle (inl (takes, is)) = ap length is ∙ length-set rows job (closed_row at kind (get_or rows job (fresh_row job)))
 Applies-length table rows entry middle (inr (none, is)) = ap length is
@@ -49,13 +51,13 @@ AppliesAll-length table rows (entry ∷ entries) last (middle, applies, rest) = 
 
 -- the rows that a message has are those of the table, and their counts are within the bounds
 abbrev HasRows : Table → Message → Type 0
-HasRows table (Snap slot rows) = HasFirstVersion table rows × AreRowsBelow (2 ^ 20) rows
+HasRows table (Snap slot rows) = RowsStand rows (table_size table) × AreRowsBelow (2 ^ 20) rows
 HasRows table message = Unit {0}
 
 has_rows : (n : ℕ) (table : Table) (w : World) (q : ℕ) (message : Message) → IsSound table → IsFollowed n table (first_rows table) w → HasSaid w.said q message → HasRows table message
 has_rows n table w q (Snap slot rows) sound followed has =
     let at = followed.tables.snaps q slot rows has in
-    (clerk_first_version table at.entries rows at.applied, few_launched table at.entries rows sound at.applied)
+    (clerk_stands table at.entries rows at.applied, few_launched table at.entries rows sound at.applied)
 has_rows n table w q message sound followed has = tt
 
 -- ---- packets
@@ -105,9 +107,9 @@ message_small table most (Accepted ballot slot) short (round, low) has = one_sma
 message_small table most (Nack ballot promised) short (round, low) has = one_small (table_size table) (packet.Nack ballot promised) (and_from _ _ (small_ballot most ballot short round) (small_ballot most promised short low))
 message_small table most (Known slot entry) short low has = one_small (table_size table) (packet.Known slot entry) (small_slot most slot short low)
 message_small table most (AskFrom slot) short low has = one_small (table_size table) (packet.AskFrom slot) (small_slot most slot short low)
-message_small table most (Snap slot rows) short (low, within) (version, below) =
-    and_from _ _ (and_from _ _ (small_slot most slot short low) (eq-eqb (length rows) (row_count (table_size table)) version.numbered.count))
-    (small_rows (table_size table) most slot rows short low (λ row inside. All-contains (λ row. (row.launched < 2 ^ 20) × (row.voided < 2 ^ 20)) rows row below inside) (first_version_fits table rows version))
+message_small table most (Snap slot rows) short (low, within) (stand, below) =
+    and_from _ _ (and_from _ _ (small_slot most slot short low) (eq-eqb (length rows) (row_count (table_size table)) stand.numbered.count))
+    (small_rows (table_size table) most slot rows short low (λ row inside. All-contains (λ row. (row.launched < 2 ^ 20) × (row.voided < 2 ^ 20)) rows row below inside) (rows_fit table rows stand))
 message_small table most (Lead ballot slot) short (round, low) has = one_small (table_size table) (packet.Lead ballot slot) (and_from _ _ (small_ballot most ballot short round) (small_slot most slot short low))
 message_small table most (Mention ballot) short low has = refl
 

@@ -1,9 +1,11 @@
--- How often a job has been launched: at most once for each minute of the window, since its instants or dates rise.
-use Rattle.std.proofs.Common.{◌≡◌, ℕ, zero, suc, ◌+◌, ◌<◌, ◌^◌, inl, inr, Bool, true, false, Option, Some, None, List, [], ◌∷◌, map, get_or, slice_set, ℤ, pos, ◌+ℤ◌, ◌-ℤ◌, ◌<ℤ◌, ◌≤ℤ◌, refl, sym, ap, ◌∙◌, arith, subst}
+-- How often a job has been launched: at most once for each minute of the window, since its instants or dates rise. What the table's own row
+-- counts is its version.
+use Rattle.std.proofs.Common.{◌≡◌, ℕ, zero, suc, ◌+◌, ◌<◌, ◌^◌, inl, inr, Bool, true, false, eqb, Option, Some, None, List, [], ◌∷◌, length, map, get_or, slice_set, ℤ, pos, ◌+ℤ◌, ◌-ℤ◌, ◌<ℤ◌, ◌≤ℤ◌, refl, sym, ap, ◌∙◌, arith, subst}
 use Rattle.std.specs.List.{Contains, range_with_len, slice_get}
 use Rattle.std.specs.Int.{int_div_euclid}
 use Rattle.std.proofs.lemmas.Int.{ints}
-use Rattle.std.proofs.lemmas.Option.{get_or_from_slice_get}
+use Rattle.std.specs.Prelude.{is_some, not}
+use Rattle.std.proofs.lemmas.Option.{get_or_from_slice_get, slice_get_within}
 use Rattle.jiff.specs.Types.{TimeZone}
 use Rattle.jiff.specs.Words.{offset_at}
 use Rattle.jiff_core.proofs.SignedLemmas.{signed_arith}
@@ -14,18 +16,20 @@ use Rattle.zone_minutes.specs.Zone.{local_of, minute_nanos}
 use Rattle.zone_minutes.specs.declared.minute.Window.{Window}
 use Rattle.zone_minutes.proofs.RunLemmas.{local_of-ahead}
 use Rattle.zone_minutes.proofs.ZoneLemmas.{offset_small}
-use Rattle.paxos_base.specs.Rows.{fresh_row, row_count}
+use Rattle.paxos_base.specs.Rows.{RowsStand, fresh_row, row_count}
 use Rattle.paxos_base.specs.declared.entry.Entry.{Entry}
 use Rattle.paxos_base.specs.declared.entry.Entry.TheVariants.{Noop, Start, End, Table as TableEntry}
 use Rattle.paxos_base.specs.declared.entry.Kind.{Kind}
 use Rattle.paxos_base.specs.declared.entry.Kind.TheVariants.{Launch, Void}
 use Rattle.paxos_base.specs.declared.rows.JobRow.{JobRow}
 use Rattle.cluster_sched.specs.Names.{IsDayNear, IsTimeNear}
-use Rattle.due_set.specs.Table.{IsAfter, IsSound, Table, is_by_period}
+use Rattle.due_set.specs.Table.{IsAfter, IsSound, Table, is_by_period, version_count}
 use Rattle.due_set.proofs.NamedLemmas.{due_says, opening_says}
-use Rattle.launch_machine.specs.Clerk.{Applies, AppliesAll, MayStart, closed_row, first_rows, opened_row, table_size}
-use Rattle.launch_machine.proofs.MachineLemmas.{set_here, set_there}
-use Rattle.std.proofs.lemmas.Bool.{cases_eq}
+use Rattle.launch_machine.specs.Clerk.{Applies, AppliesAll, MayStart, adopted_row, closed_row, first_rows, in_force, opened_row, table_size}
+use Rattle.launch_machine.specs.declared.force.InForce.{InForce}
+use Rattle.launch_machine.proofs.MachineLemmas.{own_known, set_here, set_there}
+use Rattle.launch_machine.proofs.VersionRows.{clerk_stands}
+use Rattle.std.proofs.lemmas.Bool.{and_parts, cases_eq, eqb-true}
 use Rattle.launch_machine.proofs.StartLemmas.{may_start_later}
 use Rattle.step_spec.proofs.Lists.{nothing_in}
 use Rattle.history.specs.Numbers.{AreRowsBelow}
@@ -47,11 +51,12 @@ day_near window zone now date inside is =
     }
 
 -- a launch that may be started is of an instant of the window, or on a day near it
-pub start_near : (table : Table) (job : ℕ) (row : JobRow) (at now : ℤ) → IsSound table → MayStart table job row at now → IsTimeNear table.window (is_by_period table job) at
-start_near table job row at now sound (inl (next, come)) =
-    subst (λ by_period. IsTimeNear table.window by_period at) (sym (due_says table 0 job at sound next.due)) next.due.inside
-start_near table job row at now sound (inr opens) =
-    subst (λ by_period. IsTimeNear table.window by_period at) (sym (opening_says table 0 job row.last row.cursor now at sound opens))
+pub start_near : (table : Table) (force : InForce) (job : ℕ) (row : JobRow) (at now : ℤ) → IsSound table → MayStart table force job row at now
+    → IsTimeNear table.window (is_by_period table job) at
+start_near table force job row at now sound (inl (next, come)) =
+    subst (λ by_period. IsTimeNear table.window by_period at) (sym (due_says table force.version job at sound next.due)) next.due.inside
+start_near table force job row at now sound (inr opens) =
+    subst (λ by_period. IsTimeNear table.window by_period at) (sym (opening_says table force.version job row.last row.cursor now at sound opens))
     (day_near table.window opens.zone now at opens.inside opens.is_date)
 
 -- two launches of a job are fewer minutes, or fewer days, apart than a window has minutes
@@ -89,23 +94,27 @@ abbrev BeganBy : Table → ℕ → Option ℤ → ℕ → Type 0
 BeganBy table job None count = count ≡ 0
 BeganBy table job (Some at) count = IsSpread table job at count
 
+-- so it is of each row of a job
 abbrev AreSpread : Table → List JobRow → Type 0
-AreSpread table rows = (job : ℕ) (row : JobRow) → slice_get rows job ≡ Some row → BeganBy table job row.cursor (begun row)
+AreSpread table rows = (job : ℕ) (row : JobRow) → job < length table.jobs → slice_get rows job ≡ Some row → BeganBy table job row.cursor (begun row)
 
 -- rows of which one is put in its place
-put_spreads : (table : Table) (rows : List JobRow) (job : ℕ) (new : JobRow) → AreSpread table rows → BeganBy table job new.cursor (begun new) → AreSpread table (slice_set rows job new)
-put_spreads table rows job new spread now k row is = elim (cases_eq k job) [
+put_spreads : (table : Table) (rows : List JobRow) (job : ℕ) (new : JobRow) → AreSpread table rows → (job < length table.jobs → BeganBy table job new.cursor (begun new))
+    → AreSpread table (slice_set rows job new)
+put_spreads table rows job new spread now k row below is = elim (cases_eq k job) [
   | inl same ↦
       let put : new ≡ row = set_here rows job row new (subst (λ (i : ℕ). slice_get (slice_set rows job new) i ≡ Some row) same is) in
-      subst (λ (i : ℕ). BeganBy table i row.cursor (begun row)) (sym same) (subst (λ (r : JobRow). BeganBy table job r.cursor (begun r)) put now)
-  | inr other ↦ spread k row (sym (set_there rows job k new other) ∙ is)
+      let begun_now = now (subst (λ (i : ℕ). i < length table.jobs) same below) in
+      subst (λ (i : ℕ). BeganBy table i row.cursor (begun row)) (sym same) (subst (λ (r : JobRow). BeganBy table job r.cursor (begun r)) put begun_now)
+  | inr other ↦ spread k row below (sym (set_there rows job k new other) ∙ is)
 ]
 
-start_spreads : (table : Table) (job : ℕ) (row : JobRow) (at now : ℤ) → IsSound table → row.open_now ≡ None → MayStart table job row at now → BeganBy table job row.cursor (begun row) → IsSpread table job at (begun (opened_row at now row))
-start_spreads table job row at now sound idle may spread = go row.cursor (may_start_later table job row at now may) spread
+start_spreads : (table : Table) (force : InForce) (job : ℕ) (row : JobRow) (at now : ℤ) → IsSound table → row.open_now ≡ None → MayStart table force job row at now
+    → BeganBy table job row.cursor (begun row) → IsSpread table job at (begun (opened_row at now row))
+start_spreads table force job row at now sound idle may spread = go row.cursor (may_start_later table force job row at now may) spread
   where
     near : IsTimeNear table.window (is_by_period table job) at
-    near = start_near table job row at now sound may
+    near = start_near table force job row at now sound may
 
     none : ones row.open_now ≡ 0
     none = ap ones idle
@@ -130,15 +139,17 @@ end_spreads table job row at since Void is_open spread =
 
 after_spreads : (table : Table) (rows : List JobRow) (entry : Entry) (middle : List JobRow) → IsSound table → AreSpread table rows → Applies table rows entry middle → AreSpread table middle
 after_spreads table rows Noop middle sound spread (inl (takes, is)) = absurd takes
-after_spreads table rows (TableEntry version now) middle sound spread (inl (takes, is)) = absurd takes
+after_spreads table rows (TableEntry version now) middle sound spread (inl (takes, is)) =
+    let own : ℕ = length table.jobs in
+    rw is (put_spreads table rows own (adopted_row version now (get_or rows own (fresh_row own))) spread (λ below. absurd (omega (arith, below))))
 after_spreads table rows (Start job at now) middle sound spread (inl (takes, is)) =
-    let new = start_spreads table job takes.row at now sound takes.idle takes.may (spread job takes.row takes.is_row) in
+    let new = start_spreads table (in_force table rows) job takes.row at now sound takes.idle takes.may (spread job takes.row takes.known takes.is_row) in
     rw is (put_spreads table rows job (opened_row at now (get_or rows job (fresh_row job))) spread
-    (subst (λ (row : JobRow). IsSpread table job at (begun (opened_row at now row))) (sym (get_or_from_slice_get rows job takes.row (fresh_row job) takes.is_row)) new))
+    (λ below. subst (λ (row : JobRow). IsSpread table job at (begun (opened_row at now row))) (sym (get_or_from_slice_get rows job takes.row (fresh_row job) takes.is_row)) new))
 after_spreads table rows (End job at kind) middle sound spread (inl (takes, is)) =
-    let new = end_spreads table job takes.row at takes.since kind takes.is_open (spread job takes.row takes.is_row) in
-    rw is (put_spreads table rows job (closed_row at kind (get_or rows job (fresh_row job))) spread
-    (subst (λ (row : JobRow). BeganBy table job (closed_row at kind row).cursor (begun (closed_row at kind row))) (sym (get_or_from_slice_get rows job takes.row (fresh_row job) takes.is_row)) new))
+    rw is (put_spreads table rows job (closed_row at kind (get_or rows job (fresh_row job))) spread (λ below.
+    let new = end_spreads table job takes.row at takes.since kind takes.is_open (spread job takes.row below takes.is_row) in
+    subst (λ (row : JobRow). BeganBy table job (closed_row at kind row).cursor (begun (closed_row at kind row))) (sym (get_or_from_slice_get rows job takes.row (fresh_row job) takes.is_row)) new))
 after_spreads table rows entry middle sound spread (inr (none, is)) = rw is spread
 
 all_spread : (table : Table) (rows : List JobRow) (entries : List Entry) (last : List JobRow) → IsSound table → AreSpread table rows → AppliesAll table rows entries last → AreSpread table last
@@ -170,11 +181,29 @@ place_of (y ∷ xs) x has = elim (cons_cases y xs x has) [
   | inr later ↦ let rest = place_of xs x later in (suc rest.0, rest.1)
 ]
 
+-- the table's own row has a version of the table as its count
+own_few : (table : Table) (rows : List JobRow) (row : JobRow) → IsSound table → RowsStand rows (table_size table) → slice_get rows (length table.jobs) ≡ Some row
+    → (row.launched < 2 ^ 20) × (row.voided < 2 ^ 20)
+own_few table rows row sound stand is =
+    let known : (get_or rows (length table.jobs) row).launched < version_count table = own_known table rows (length table.jobs) row stand refl in
+    let here : get_or rows (length table.jobs) row ≡ row = get_or_from_slice_get rows (length table.jobs) row row is in
+    let launched : row.launched < version_count table = subst (λ (r : JobRow). r.launched < version_count table) here known in
+    let ended = and_parts (not (is_some row.open_now)) _ (stand.ends row is) in
+    let counted = and_parts (not (is_some row.last)) _ ended.1 in
+    let none : row.voided ≡ 0 = eqb-true row.voided 0 (and_parts (eqb row.voided 0) _ counted.1).0 in
+    (omega (arith, launched, sound.versions.few), omega (arith, none))
+
 -- the counts of a launch table are below 2^20
 pub few_launched : (table : Table) (entries : List Entry) (last : List JobRow) → IsSound table → AppliesAll table (first_rows table) entries last → AreRowsBelow (2 ^ 20) last
 few_launched table entries last sound applied =
-    let spread = all_spread table (first_rows table) entries last sound (λ job row is. none_begun table 0 (row_count (table_size table)) job row is job) applied in
+    let spread = all_spread table (first_rows table) entries last sound (λ job row below is. none_begun table 0 (row_count (table_size table)) job row is job) applied in
+    let stand = clerk_stands table entries last applied in
     all_in (λ row. (row.launched < 2 ^ 20) × (row.voided < 2 ^ 20)) last (λ row has.
     let at = place_of last row has in
-    let few = few_begun table at.0 row sound (spread at.0 row at.1) in
-    (omega (arith, few), omega (arith, few)))
+    elim (cases_eq at.0 (length table.jobs)) [
+      | inl own ↦ own_few table last row sound stand (subst (λ (k : ℕ). slice_get last k ≡ Some row) own at.1)
+      | inr other ↦
+          let within = slice_get_within last at.0 row at.1 in
+          let few = few_begun table at.0 row sound (spread at.0 row (omega (arith, within, stand.numbered.count, other)) at.1) in
+          (omega (arith, few), omega (arith, few))
+    ])

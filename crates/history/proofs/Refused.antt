@@ -3,7 +3,6 @@ use Rattle.std.proofs.Common.{◌≡◌, ◌<◌, ℕ, ℤ, pos, Bool, true, fal
 use Rattle.std.specs.List.{Contains, slice_get}
 use Rattle.launch_machine.specs.Clerk.{first_rows}
 use Rattle.launch_machine.specs.declared.machine.Intent.TheVariants as intent
-use Rattle.launch_machine.proofs.MachineLemmas.{start_within}
 use Rattle.paxos_base.specs.Members.{with_member}
 use Rattle.cluster_sched.specs.declared.row.SchedRow.{SchedRow}
 use Rattle.step_spec.specs.Folds.{calls_of, deltas_of, learnt_of, calls_by, learnt_by, sent_by}
@@ -87,7 +86,7 @@ pub no_plan : (row : Row) (job : ℕ) (at : ℤ) → row.event ≡ told.Tick (po
 no_plan row job at is (takes, brings) =
     let planned : IsPlanned no_jobs (beginning.replicas 0) (told.Tick (pos 0) (record { rows = first_rows no_jobs; intent = intent.Start job at })) =
     subst (λ event. IsPlanned no_jobs (beginning.replicas 0) event) is takes.planned in
-    let below : job < 0 = start_within no_jobs job planned.1.1.takes.row at (pos 0) planned.1.1.takes.may in
+    let below : job < 0 = planned.1.1.takes.known in
     omega (arith, below)
 
 -- a letter is heard by its addressee alone

@@ -50,7 +50,7 @@ start_of job at now = entry.Start job at now
 
 -- the launch table after that start alone
 abbrev pub started_rows : Table → ℕ → (at now : ℤ) → List JobRow
-started_rows table job at now = rows_after (first_rows table) (start_of job at now)
+started_rows table job at now = rows_after table (first_rows table) (start_of job at now)
 
 -- At a clock reading in its window the table asks for the start of a launch, and then for its call.
 pub record AsksFor (table : Table) (job : ℕ) (at now : ℤ) : Type 0 where

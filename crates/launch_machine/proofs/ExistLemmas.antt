@@ -1,5 +1,5 @@
 -- Of a sound table, entries leave a launch table, and a job's starts and ends along them are there and are one.
-use Rattle.std.proofs.Common.{◌≡◌, ◌≢◌, ℕ, ◌+◌, ◌≤ℤ◌, ◌⊎◌, inl, inr, List, [], ◌∷◌, Option, None, Some, ℤ, refl, sym, ap, ◌∙◌, subst}
+use Rattle.std.proofs.Common.{◌≡◌, ◌≢◌, ℕ, ◌+◌, ◌<◌, length, ◌≤ℤ◌, ◌⊎◌, inl, inr, List, [], ◌∷◌, Option, None, Some, ℤ, refl, sym, ap, ◌∙◌, subst, arith}
 use Rattle.std.specs.Prelude.{slice_get}
 use Rattle.paxos_base.specs.declared.entry.Entry.{Entry}
 use Rattle.paxos_base.specs.declared.entry.Entry.TheVariants.{Noop, Start, End, Table as TableEntry}
@@ -12,11 +12,13 @@ use Rattle.due_set.proofs.CountLemmas.{IsNextDue-same}
 use Rattle.due_set.proofs.DecideLemmas.{IsDecided, decided_both, decided_either, decided_le, decided_same}
 use Rattle.due_set.proofs.ExistLemmas.{next_or_none}
 use Rattle.due_set.proofs.OpenLemmas.{open_or_not, opens_on_one_date}
-use Rattle.launch_machine.specs.Clerk.{Applies, AppliesAll, IsClerkOf, MayStart, TakesStart, TakesEnd, TakesEffect, first_rows, rows_after}
-use Rattle.launch_machine.specs.Starts.{AddsEnd, AddsStart, EndsFrom, EndsJob, EndsOf, StartsFrom, StartsJob, StartsOf}
+use Rattle.launch_machine.specs.Clerk.{Applies, AppliesAll, IsClerkOf, MayStart, TakesStart, TakesEnd, TakesEffect, first_rows, in_force, later_of, rows_after}
+use Rattle.launch_machine.specs.declared.force.InForce.{InForce}
+use Rattle.launch_machine.specs.Starts.{AddsAdoption, AddsEnd, AddsStart, AdoptionsFrom, AdoptionsOf, EndsFrom, EndsJob, EndsOf, StartsFrom, StartsJob, StartsOf}
+use Rattle.launch_machine.proofs.AdoptionLemmas.{takes_table_or_not}
 use Rattle.launch_machine.proofs.ClerkLemmas.{Applies-same}
 use Rattle.launch_machine.proofs.MachineLemmas.{same_row}
-use Rattle.std.proofs.lemmas.Bool.{cases_eq}
+use Rattle.std.proofs.lemmas.Bool.{cases_eq, cases_lt}
 
 pub same_kind_or_not : (a b : Kind) → (a ≡ b) ⊎ (a ≢ b)
 same_kind_or_not Launch Launch = inl refl
@@ -24,36 +26,38 @@ same_kind_or_not Launch Void = inr (λ e. cc)
 same_kind_or_not Void Launch = inr (λ e. cc)
 same_kind_or_not Void Void = inl refl
 
-decided_next : (table : Table) → IsSound table → (job : ℕ) (cursor : Option ℤ) (at : ℤ) → IsDecided (IsNextDue table 0 job cursor at)
-decided_next table sound job cursor at = elim (next_or_none table sound 0 job cursor) [
+decided_next : (table : Table) → IsSound table → (version job : ℕ) (after : Option ℤ) (at : ℤ) → IsDecided (IsNextDue table version job after at)
+decided_next table sound version job after at = elim (next_or_none table sound version job after) [
   | inl (first, next) ↦ elim (decided_same first at) [
-    | inl e ↦ inl (subst (IsNextDue table 0 job cursor) e next)
-    | inr ne ↦ inr (λ other. ne (IsNextDue-same table 0 job cursor first at next other))
+    | inl e ↦ inl (subst (IsNextDue table version job after) e next)
+    | inr ne ↦ inr (λ other. ne (IsNextDue-same table version job after first at next other))
   ]
   | inr none ↦ inr (λ other. none at other.due other.later)
 ]
 
 -- whether the job's launch may be started
-may_start_or_not : (table : Table) → IsSound table → (job : ℕ) (row : JobRow) (at now : ℤ) → IsDecided (MayStart table job row at now)
-may_start_or_not table sound job row at now =
-    decided_either (IsNextDue table 0 job row.cursor at × (at ≤ℤ now)) (IsJobOpen table 0 job row.last row.cursor now at)
-    (decided_both (IsNextDue table 0 job row.cursor at) (at ≤ℤ now) (decided_next table sound job row.cursor at) (decided_le at now))
-    (elim (open_or_not table 0 job row.last row.cursor now sound) [
+may_start_or_not : (table : Table) → IsSound table → (force : InForce) (job : ℕ) (row : JobRow) (at now : ℤ) → IsDecided (MayStart table force job row at now)
+may_start_or_not table sound force job row at now =
+    let version : ℕ = force.version in
+    let after : Option ℤ = later_of row.cursor force.since in
+    decided_either (IsNextDue table version job after at × (at ≤ℤ now)) (IsJobOpen table version job row.last row.cursor now at)
+    (decided_both (IsNextDue table version job after at) (at ≤ℤ now) (decided_next table sound version job after at) (decided_le at now))
+    (elim (open_or_not table version job row.last row.cursor now sound) [
       | inl (date, opens) ↦ elim (decided_same date at) [
-        | inl e ↦ inl (subst (IsJobOpen table 0 job row.last row.cursor now) e opens)
-        | inr ne ↦ inr (λ other. ne (opens_on_one_date table 0 job row.last row.cursor now date at opens other))
+        | inl e ↦ inl (subst (IsJobOpen table version job row.last row.cursor now) e opens)
+        | inr ne ↦ inr (λ other. ne (opens_on_one_date table version job row.last row.cursor now date at opens other))
       ]
       | inr none ↦ inr (none at)
     ])
 
 -- whether a start takes effect, by its job's row
-start_by_row : (table : Table) → IsSound table → (rows : List JobRow) (job : ℕ) (at now : ℤ) (row : JobRow) → slice_get rows job ≡ Some row
+start_by_row : (table : Table) → IsSound table → (rows : List JobRow) (job : ℕ) (at now : ℤ) (row : JobRow) → job < length table.jobs → slice_get rows job ≡ Some row
     → (open_now : Option ℤ) → row.open_now ≡ open_now → IsDecided (TakesStart table rows job at now)
-start_by_row table sound rows job at now row is_row (Some since) is_open =
+start_by_row table sound rows job at now row known is_row (Some since) is_open =
     inr (λ takes. cc (ap (λ (r : JobRow). r.open_now) (same_row rows job takes.row row takes.is_row is_row), takes.idle, is_open))
-start_by_row table sound rows job at now row is_row None idle = elim (may_start_or_not table sound job row at now) [
-  | inl may ↦ inl (record { row = row; is_row = is_row; idle = idle; may = may })
-  | inr not ↦ inr (λ takes. not (subst (λ (r : JobRow). MayStart table job r at now) (same_row rows job takes.row row takes.is_row is_row) takes.may))
+start_by_row table sound rows job at now row known is_row None idle = elim (may_start_or_not table sound (in_force table rows) job row at now) [
+  | inl may ↦ inl (record { known = known; row = row; is_row = is_row; idle = idle; may = may })
+  | inr not ↦ inr (λ takes. not (subst (λ (r : JobRow). MayStart table (in_force table rows) job r at now) (same_row rows job takes.row row takes.is_row is_row) takes.may))
 ]
 
 -- whether an end takes effect, by its job's row
@@ -71,12 +75,15 @@ end_by_row rows job at row is_row (Some since) (Some other) is_open is_cursor = 
 -- of a sound table an entry takes effect or it doesn't
 takes_or_not : (table : Table) → IsSound table → (rows : List JobRow) (entry : Entry) → IsDecided (TakesEffect table rows entry)
 takes_or_not table sound rows Noop = inr (λ takes. takes)
-takes_or_not table sound rows (TableEntry version now) = inr (λ takes. takes)
+takes_or_not table sound rows (TableEntry version now) = takes_table_or_not table sound rows version now
 takes_or_not table sound rows (Start job at now) = by_row (slice_get rows job) refl
   where
     by_row : (found : Option JobRow) → slice_get rows job ≡ found → IsDecided (TakesStart table rows job at now)
     by_row None none = inr (λ takes. cc (takes.is_row, none))
-    by_row (Some row) is_row = start_by_row table sound rows job at now row is_row row.open_now refl
+    by_row (Some row) is_row = elim (cases_lt job (length table.jobs)) [
+      | inl below ↦ start_by_row table sound rows job at now row below is_row row.open_now refl
+      | inr past ↦ inr (λ takes. omega (arith, past, takes.known))
+    ]
 takes_or_not table sound rows (End job at kind) = by_row (slice_get rows job) refl
   where
     by_row : (found : Option JobRow) → slice_get rows job ≡ found → IsDecided (TakesEnd rows job at)
@@ -85,7 +92,7 @@ takes_or_not table sound rows (End job at kind) = by_row (slice_get rows job) re
 
 pub one_applied : (table : Table) → IsSound table → (rows : List JobRow) (entry : Entry) → (middle : List JobRow) × Applies table rows entry middle
 one_applied table sound rows entry = elim (takes_or_not table sound rows entry) [
-  | inl takes ↦ (rows_after rows entry, inl (takes, refl))
+  | inl takes ↦ (rows_after table rows entry, inl (takes, refl))
   | inr not ↦ (rows, inr (not, refl))
 ]
 
@@ -227,3 +234,50 @@ EndsFrom-same table rows (entry ∷ entries) job kind a b (middle, later, step, 
 
 pub EndsOf-same : (table : Table) (entries : List Entry) (job : ℕ) (kind : Kind) (a b : ℕ) → EndsOf table entries job kind a → EndsOf table entries job kind b → a ≡ b
 EndsOf-same table entries job kind a b = EndsFrom-same table (first_rows table) entries job kind a b
+
+-- ---- the versions that are adopted
+
+-- whether an entry that is applied adopts a version
+adopts_or_not : (table : Table) (rows : List JobRow) (entry : Entry) (middle : List JobRow) (later : List ℤ) → Applies table rows entry middle
+    → (instants : List ℤ) × AddsAdoption table rows entry later instants
+adopts_or_not table rows Noop middle later applies = (later, inr (λ now adopts. cc (adopts.is), refl))
+adopts_or_not table rows (Start j at now) middle later applies = (later, inr (λ other adopts. cc (adopts.is), refl))
+adopts_or_not table rows (End j at kind) middle later applies = (later, inr (λ other adopts. cc (adopts.is), refl))
+adopts_or_not table rows (TableEntry version now) middle later (inl (takes, e)) =
+    (now ∷ later, inl (now, record { version = version; is = refl; takes = takes }, refl))
+adopts_or_not table rows (TableEntry version now) middle later (inr (not, e)) =
+    (later, inr (λ other adopts. not (subst (TakesEffect table rows) (sym adopts.is) adopts.takes), refl))
+
+pub adoptions_exist : (table : Table) (rows : List JobRow) (entries : List Entry) (last : List JobRow) → AppliesAll table rows entries last
+    → (instants : List ℤ) × AdoptionsFrom table rows entries instants
+adoptions_exist table rows [] last all = ([], refl)
+adoptions_exist table rows (entry ∷ entries) last (middle, step, rest) =
+    let more = adoptions_exist table middle entries last rest in
+    let here = adopts_or_not table rows entry middle more.0 step in
+    (here.0, (middle, more.0, step, here.1, more.1))
+
+pub adoptions_of_exist : (table : Table) → IsSound table → (entries : List Entry) → (instants : List ℤ) × AdoptionsOf table entries instants
+adoptions_of_exist table sound entries =
+    let clerk = clerk_exists table sound entries in adoptions_exist table (first_rows table) entries clerk.0 clerk.1
+
+AddsAdoption-same : (table : Table) (rows : List JobRow) (entry : Entry) (later a b : List ℤ) → AddsAdoption table rows entry later a
+    → AddsAdoption table rows entry later b → a ≡ b
+AddsAdoption-same table rows entry later a b (inl (now, adopts, e)) (inl (other, again, f)) =
+    let is : TableEntry adopts.version now ≡ TableEntry again.version other = sym adopts.is ∙ again.is in
+    let same : now ≡ other = cc in
+    e ∙ ap (λ (t : ℤ). t ∷ later) same ∙ sym f
+AddsAdoption-same table rows entry later a b (inl (now, adopts, e)) (inr (none, f)) = absurd (none now adopts)
+AddsAdoption-same table rows entry later a b (inr (none, e)) (inl (now, adopts, f)) = absurd (none now adopts)
+AddsAdoption-same table rows entry later a b (inr (none, e)) (inr (again, f)) = e ∙ sym f
+
+AdoptionsFrom-same : (table : Table) (rows : List JobRow) (entries : List Entry) (a b : List ℤ) → AdoptionsFrom table rows entries a
+    → AdoptionsFrom table rows entries b → a ≡ b
+AdoptionsFrom-same table rows [] a b e f = e ∙ sym f
+AdoptionsFrom-same table rows (entry ∷ entries) a b (middle, later, step, adds, rest) (other, later_b, step_b, adds_b, rest_b) =
+    let rows_are : other ≡ middle = Applies-same table rows entry other middle step_b step in
+    let same : later_b ≡ later =
+    AdoptionsFrom-same table middle entries later_b later (subst (λ (m : List JobRow). AdoptionsFrom table m entries later_b) rows_are rest_b) rest in
+    AddsAdoption-same table rows entry later a b adds (subst (λ (l : List ℤ). AddsAdoption table rows entry l b) same adds_b)
+
+pub AdoptionsOf-same : (table : Table) (entries : List Entry) (a b : List ℤ) → AdoptionsOf table entries a → AdoptionsOf table entries b → a ≡ b
+AdoptionsOf-same table entries a b = AdoptionsFrom-same table (first_rows table) entries a b

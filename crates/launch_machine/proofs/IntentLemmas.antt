@@ -6,7 +6,7 @@ use Rattle.paxos_base.specs.declared.entry.Kind.TheVariants as kind
 use Rattle.paxos_base.specs.declared.rows.JobRow.{JobRow}
 use Rattle.due_set.specs.Table.{Table}
 use Rattle.launch_machine.specs.Answers.{IsCallKind, IsIntent}
-use Rattle.launch_machine.specs.Clerk.{TakesStart}
+use Rattle.launch_machine.specs.Clerk.{TakesStart, in_force}
 use Rattle.launch_machine.specs.Intent.{IsFirstCall, IsFirstStart, MayCall}
 use Rattle.launch_machine.specs.declared.machine.Intent.{Intent}
 use Rattle.launch_machine.specs.declared.machine.Intent.TheVariants.{Call, Start, Rest}
@@ -35,7 +35,8 @@ one_kind P kind.Launch kind.Void one other = sym (other.1 (one.0 refl))
 one_kind P kind.Void kind.Launch one other = one.1 (other.0 refl)
 one_kind P kind.Void kind.Void one other = refl
 
-same_kind : (table : Table) (rows : List JobRow) (now : ℤ) (job : ℕ) (at : ℤ) (a b : Kind) → MayCall table rows job at now → IsCallKind table job at now a → IsCallKind table job at now b → a ≡ b
+same_kind : (table : Table) (rows : List JobRow) (now : ℤ) (job : ℕ) (at : ℤ) (a b : Kind) → MayCall table rows job at now
+    → IsCallKind table (in_force table rows).version job at now a → IsCallKind table (in_force table rows).version job at now b → a ≡ b
 same_kind table rows now job at a b may one other =
     one_kind _ a b (one may.spec may.zone may.is_in) (other may.spec may.zone may.is_in)
 
@@ -53,7 +54,7 @@ first_start table rows now job another at since one other = elim (cases_order jo
 pub one_intent : (table : Table) (rows : List JobRow) (now : ℤ) (a b : Intent) → IsIntent table rows now a → IsIntent table rows now b → a ≡ b
 one_intent table rows now (Call job at sort) (Call another since other) (call, kind_is) (again, other_is) =
     let same = first_call table rows now job another at since call again in
-    let here : IsCallKind table job at now other = rw (same.0, same.1) other_is in
+    let here : IsCallKind table (in_force table rows).version job at now other = rw (same.0, same.1) other_is in
     let kinds = same_kind table rows now job at sort other call.may kind_is here in
     rw (same.0, same.1, kinds) refl
 one_intent table rows now (Call job at sort) (Start another since) call start = absurd (start.0 job at call.0.may)

@@ -1,7 +1,11 @@
+pub mod AdoptionLemmas
 pub mod ClerkLemmas
 pub mod EndLemmas
+pub mod EndedLemmas
 pub mod ExistLemmas
 pub mod IntentLemmas
 pub mod MachineLemmas
 pub mod NextLemmas
 pub mod StartLemmas
+pub mod UnderLemmas
+pub mod VersionRows

@@ -1,13 +1,14 @@
 -- A machine's rows and what stands beside them, and what a change of one place leaves.
-use Rattle.std.proofs.Common.{◌≡◌, ◌≢◌, ℕ, zero, suc, ◌+◌, ◌<◌, ◌≤◌, inl, inr, ◌↔◌, List, [], ◌∷◌, ◌++◌, length, get_or, Option, None, Some, ℤ, ◌≤ℤ◌, Bool, IsTrue, true, false, true≢false, refl, sym, ap, ◌∙◌, subst, arith, length-append}
+use Rattle.std.proofs.Common.{◌≡◌, ◌≢◌, ℕ, zero, suc, ◌+◌, ◌<◌, ◌≤◌, inl, inr, ◌↔◌, List, [], ◌∷◌, ◌++◌, length, get_or, Option, None, Some, ℤ, ◌≤ℤ◌, Bool, IsTrue, true, false, eqb, leb, ◌&&◌, if◌then◌else◌, true≢false, refl, sym, ap, ◌∙◌, subst, arith, length-append}
 use Rattle.std.specs.Prelude.{map, not, is_some, IfNone, IfOk, IfSome, IsSome, Result, Ok, Err, slice_get, slice_set}
 use Rattle.std.proofs.Math.ListN.{length-set}
-use Rattle.std.proofs.lemmas.Bool.{and_parts, cases_eq, false≢true}
+use Rattle.std.proofs.lemmas.Bool.{and_parts, cases_eq, false≢true, leb-true}
 use Rattle.std.proofs.lemmas.Int.{ints}
+use Rattle.std.proofs.lemmas.List.{get_or-set_other}
 use Rattle.std.proofs.lemmas.Option.{slice_get_within, get_or_from_slice_get, slice_get-get_or}
 use Rattle.std.specs.List.{range_with_len}
 use Rattle.std.proofs.lemmas.List.Elements.{All-map}
-use Rattle.paxos_base.specs.Rows.{AreNumbered, RowsStand, OpenHasCursor, OpenHaveCursors, fresh_rows, row_count}
+use Rattle.paxos_base.specs.Rows.{AreNumbered, RowsStand, is_table_row, OpenHasCursor, OpenHaveCursors, fresh_rows, row_count}
 use Rattle.paxos_base.specs.declared.rows.TableSize.{TableSize}
 use Rattle.paxos_base.specs.declared.rows.JobRow.{JobRow}
 use Rattle.paxos_base.specs.declared.entry.Kind.{Kind}
@@ -17,17 +18,18 @@ use Rattle.due_set.specs.Calls.{HasCome}
 use Rattle.due_set.specs.declared.job.JobKind.{JobKind}
 use Rattle.due_set.specs.declared.job.JobKind.TheVariants.{Anacron, Crontab, Never}
 use Rattle.due_set.specs.Anacron.{IsFirstOpening, IsJobOpen}
-use Rattle.due_set.specs.Table.{Job, Table, IsAfter, IsAnacron, IsJobDue, IsJobIn, IsNextDue, IsJobRead, IsRunByPeriod, IsKindOfName, IsSound, is_by_period, is_period_name, name_of}
+use Rattle.due_set.specs.Table.{Job, Table, IsAfter, IsAnacron, IsJobDue, IsJobIn, IsNextDue, IsJobRead, IsRunByPeriod, IsKindOfName, IsSound, is_by_period, is_period_name, job_of_version, name_of, version_count}
 use Rattle.due_set.proofs.CountLemmas.{IsNextDue-same}
-use Rattle.due_set.proofs.NamedLemmas.{due_says, kind_of_name, opening_says}
+use Rattle.due_set.proofs.NamedLemmas.{due_says, kind_of_name, named_in_table, opening_says}
 use Rattle.due_set.proofs.SoundLemmas.{at_place}
 use Rattle.due_set.proofs.OpenLemmas.{opens_on_one_date}
-use Rattle.due_set.proofs.TableLemmas.{IsRunByPeriod-kind}
+use Rattle.due_set.proofs.TableLemmas.{IsRunByPeriod-kind, same_job}
 use Rattle.paxos_base.specs.declared.entry.Entry.TheVariants.{Start}
 use Rattle.paxos_base.specs.Rows.{fresh_row}
-use Rattle.paxos_base.proofs.RowLemmas.{RowsStand-fresh_rows}
-use Rattle.launch_machine.specs.Clerk.{Applies, MayStart, TakesStart, TakesEnd, opened_row, closed_row, table_size}
-use Rattle.launch_machine.specs.Intent.{MayCall, NoCall, NoStart}
+use Rattle.paxos_base.proofs.RowLemmas.{AreNumbered-fresh_rows, RowsStand-fresh_rows, fresh_there}
+use Rattle.launch_machine.specs.Clerk.{Applies, MayStart, TakesStart, TakesEnd, first_force, first_rows, force_of, in_force, later_of, opened_row, closed_row, table_size, NoStart}
+use Rattle.launch_machine.specs.declared.force.InForce.{InForce}
+use Rattle.launch_machine.specs.Intent.{MayCall, NoCall}
 use Rattle.launch_machine.specs.Machine.{AreBeside, IsCallBeside, IsFirstStartOf, IsFirstToStart, IsStartBeside}
 
 -- what is at the place that was set
@@ -102,6 +104,50 @@ beside_table holds rows values jobs known count none =
     let here : slice_get rows jobs ≡ Some row = slice_get-get_or rows jobs (fresh_row 0) (omega (arith, count)) in
     beside_all holds rows (values ++ None ∷ []) (jobs + 1) (beside_push holds rows values jobs row None known here (none row)) count
 
+-- the values beside the first rows are set anew; beside the last row stands none
+pub record AreSetBelow (holds : ℕ → JobRow → Option ℤ → Type 0) (rows : List JobRow) (values : List (Option ℤ)) (bound : ℕ) : Type 0 where
+  pub count : length values ≡ length rows
+  pub own : (last : ℕ) → length rows ≡ last + 1 → slice_get values last ≡ Some None
+  pub each : (job : ℕ) (row : JobRow) (value : Option ℤ) → job < bound → slice_get rows job ≡ Some row → slice_get values job ≡ Some value → holds job row value
+
+pub set_none : (holds : ℕ → JobRow → Option ℤ → Type 0) (rows : List JobRow) (values : List (Option ℤ)) (jobs : ℕ) → length rows ≡ jobs + 1
+    → length values ≡ length rows → slice_get values jobs ≡ Some None → AreSetBelow holds rows values 0
+set_none holds rows values jobs many count own = record {
+  count = count;
+  own = λ last is. let same : jobs ≡ last = omega (arith, many, is) in subst (λ (k : ℕ). slice_get values k ≡ Some None) same own;
+  each = λ job row value below. absurd (omega (arith, below));
+}
+
+-- one more is set
+pub set_next : (holds : ℕ → JobRow → Option ℤ → Type 0) (rows : List JobRow) (values : List (Option ℤ)) (job : ℕ) (row : JobRow) (value : Option ℤ)
+    → AreSetBelow holds rows values job → job + 1 < length rows → slice_get rows job ≡ Some row → holds job row value
+    → AreSetBelow holds rows (slice_set values job value) (job + 1)
+set_next holds rows values job row value known within is_row is = record {
+  count = length-set values job value ∙ known.count;
+  own = λ last many. set_there values job last value (λ same. omega (arith, same, many, within)) ∙ known.own last many;
+  each = λ k r v below at_row at_value. elim (cases_eq k job) [
+    | inr other ↦ known.each k r v (omega (arith, below, other)) at_row (sym (set_there values job k value other) ∙ at_value)
+    | inl same ↦
+        let value_is : value ≡ v = set_here values job v value (subst (λ (i : ℕ). slice_get (slice_set values job value) i ≡ Some v) same at_value) in
+        let row_is : row ≡ r = same_row rows job row r is_row (subst (λ (i : ℕ). slice_get rows i ≡ Some r) same at_row) in
+        moved holds job k row r value v (sym same) row_is value_is is
+  ];
+}
+
+-- all are
+pub set_all : (holds : ℕ → JobRow → Option ℤ → Type 0) (rows : List JobRow) (values : List (Option ℤ)) (jobs : ℕ) → AreSetBelow holds rows values jobs
+    → length rows ≡ jobs + 1 → ((row : JobRow) → holds jobs row None) → AreBeside holds rows values
+set_all holds rows values jobs known many none = record {
+  count = known.count;
+  each = λ job row value is_row is_value. elim (cases_eq job jobs) [
+    | inr other ↦ known.each job row value (omega (arith, slice_get_within rows job row is_row, many, other)) is_row is_value
+    | inl same ↦
+        let here : slice_get values job ≡ Some None = subst (λ (k : ℕ). slice_get values k ≡ Some None) (sym same) (known.own jobs many) in
+        let value_is : None ≡ value = cc in
+        moved holds jobs job row row None value (sym same) refl value_is (none row)
+  ];
+}
+
 -- the tree that is built is the list of the values
 pub beside_built : {E : Type 0} (holds : ℕ → JobRow → Option ℤ → Type 0) (rows : List JobRow) (values : List (Option ℤ)) (result : Result (List (Option ℤ)) E)
     → IfOk result (λ tree. tree ≡ values) → AreBeside holds rows values → IfOk result (λ tree. AreBeside holds rows tree)
@@ -148,23 +194,28 @@ opens_by_period table job last cursor now date opens = (opens.job, opens.is_in.i
 pub due_by_instant : (table : Table) (job : ℕ) (at : ℤ) → IsJobDue table 0 job at → IsRunByPeriod table job → ⊥
 due_by_instant table job at due by = subst IsAnacron due.kind (IsRunByPeriod-kind table job due.job due.is_in.is_job by)
 
--- a job that doesn't run by its period may be started at its next due instant alone
-pub may_start_at : (table : Table) (job : ℕ) (row : JobRow) (at now : ℤ) → (IsRunByPeriod table job → ⊥) → MayStart table job row at now
-    → IsNextDue table 0 job row.cursor at × (at ≤ℤ now)
-may_start_at table job row at now other (inl next) = next
-may_start_at table job row at now other (inr opens) = absurd (other (opens_by_period table job row.last row.cursor now at opens))
-
--- and one that runs by its period, on a date
-pub may_start_on : (table : Table) (job : ℕ) (row : JobRow) (at now : ℤ) → IsRunByPeriod table job → MayStart table job row at now
+-- by the first version one that runs by its period may be started on a date alone
+pub may_start_on : (table : Table) (job : ℕ) (row : JobRow) (at now : ℤ) → IsRunByPeriod table job → MayStart table first_force job row at now
     → IsJobOpen table 0 job row.last row.cursor now at
 may_start_on table job row at now by (inr opens) = opens
 may_start_on table job row at now by (inl (next, come)) = absurd (due_by_instant table job at next.due by)
 
--- a job whose name doesn't say that it runs by a period has no such kind
-not_anacron : (table : Table) (job : ℕ) (spec : Job) → IsSound table → is_by_period table job ≡ false → slice_get table.jobs job ≡ Some spec → IsAnacron spec.kind → ⊥
-not_anacron table job spec sound not is_job is =
-    let says : is_by_period table job ≡ is_period_name spec.name = ap (λ found. is_period_name (name_of found)) is_job in
-    true≢false (sym (named spec.kind (kind_of_name table 0 job spec sound is_job) is) ∙ sym says ∙ not)
+-- no version lets a job open that is due by it
+pub due_or_opens : (table : Table) (version job : ℕ) (last cursor : Option ℤ) (at now date : ℤ) → IsJobDue table version job at
+    → IsJobOpen table version job last cursor now date → ⊥
+due_or_opens table version job last cursor at now date due opens =
+    let same : due.job ≡ opens.job = same_job table version job due.job opens.job due.is_in.is_job opens.is_in.is_job in
+    let kinds : Crontab due.fields ≡ Anacron opens.period opens.first_minute opens.last_minute =
+    sym due.kind ∙ ap (λ (j : Job). j.kind) same ∙ opens.kind in
+    absurd cc
+
+-- a job whose name doesn't say that it runs by a period has no such kind in any version
+pub not_anacron : (table : Table) (version job : ℕ) (spec : Job) → IsSound table → is_by_period table job ≡ false → job_of_version table version job ≡ Some spec
+    → IsAnacron spec.kind → ⊥
+not_anacron table version job spec sound not is_job is =
+    let first = named_in_table table version job spec sound is_job in
+    let says : is_by_period table job ≡ is_period_name spec.name = ap (λ found. is_period_name (name_of found)) first.1 ∙ ap is_period_name first.2 in
+    true≢false (sym (named spec.kind (kind_of_name table version job spec sound is_job) is) ∙ sym says ∙ not)
   where
     named : (kind : JobKind) → IsKindOfName spec.name kind → IsAnacron kind → is_period_name spec.name ≡ true
     named (Anacron period first last) says is = says
@@ -172,110 +223,139 @@ not_anacron table job spec sound not is_job is =
     named Never says is = absurd is
 
 -- and its launch has come at its instant
-pub come_by_instant : (table : Table) (job : ℕ) (spec : Job) (zone : TimeZone) (at now : ℤ) → IsSound table → is_by_period table job ≡ false → IsJobIn table 0 job spec zone
-    → HasCome spec.kind zone at now → at ≤ℤ now
-come_by_instant table job spec zone at now sound not is_in come = by spec.kind (not_anacron table job spec sound not is_in.is_job) come
+pub come_by_instant : (table : Table) (version job : ℕ) (spec : Job) (zone : TimeZone) (at now : ℤ) → IsSound table → is_by_period table job ≡ false
+    → IsJobIn table version job spec zone → HasCome spec.kind zone at now → at ≤ℤ now
+come_by_instant table version job spec zone at now sound not is_in come = by spec.kind (not_anacron table version job spec sound not is_in.is_job) come
   where
     by : (kind : JobKind) → (IsAnacron kind → ⊥) → HasCome kind zone at now → at ≤ℤ now
     by (Anacron period first last) none come = absurd (none tt)
     by (Crontab fields) none come = come
     by Never none come = come
 
+-- the instant after which a launch of the row's job is the next
+abbrev pub started_after : InForce → JobRow → Option ℤ
+started_after force row = later_of row.cursor force.since
+
 -- the first instant at which it may be started is its next due one
-pub first_is_next : (table : Table) (job : ℕ) (row : JobRow) (first : ℤ) → IsNextDue table 0 job row.cursor first → IsFirstToStart table job row first
-first_is_next table job row first next = record {
-  at = first;
-  may = inl (next, omega (arith, ints));
-  least = λ other now may.
-      let others = may_start_at table job row other now (due_by_instant table job first next.due) may in
-      let le : first ≤ℤ other = next.least other others.0.due others.0.later in
-      let come : other ≤ℤ now = others.1 in
-      omega (arith, ints);
-}
+pub first_is_next : (table : Table) (force : InForce) (job : ℕ) (row : JobRow) (first : ℤ) → IsNextDue table force.version job (started_after force row) first
+    → IsFirstToStart table force job row first
+first_is_next table force job row first next = record { at = first; may = inl (next, omega (arith, ints)); least = least }
+  where
+    least : (other now : ℤ) → MayStart table force job row other now → first ≤ℤ now
+    least other now (inl (again, come)) = let le : first ≤ℤ other = next.least other again.due again.later in omega (arith, ints)
+    least other now (inr opens) = absurd (due_or_opens table force.version job row.last row.cursor first now other next.due opens)
 
 -- by its name a job is started on a date, or at its next due instant
-pub may_start_by : (table : Table) (job : ℕ) (row : JobRow) (at now : ℤ) → IsSound table → is_by_period table job ≡ true → MayStart table job row at now
-    → IsJobOpen table 0 job row.last row.cursor now at
-may_start_by table job row at now sound by (inr opens) = opens
-may_start_by table job row at now sound by (inl (next, come)) = absurd (true≢false (sym by ∙ due_says table 0 job at sound next.due))
+pub may_start_by : (table : Table) (force : InForce) (job : ℕ) (row : JobRow) (at now : ℤ) → IsSound table → is_by_period table job ≡ true
+    → MayStart table force job row at now → IsJobOpen table force.version job row.last row.cursor now at
+may_start_by table force job row at now sound by (inr opens) = opens
+may_start_by table force job row at now sound by (inl (next, come)) = absurd (true≢false (sym by ∙ due_says table force.version job at sound next.due))
 
-may_start_next : (table : Table) (job : ℕ) (row : JobRow) (at now : ℤ) → IsSound table → is_by_period table job ≡ false → MayStart table job row at now
-    → IsNextDue table 0 job row.cursor at × (at ≤ℤ now)
-may_start_next table job row at now sound not (inl next) = next
-may_start_next table job row at now sound not (inr opens) =
-    absurd (true≢false (sym (opening_says table 0 job row.last row.cursor now at sound opens) ∙ not))
+may_start_next : (table : Table) (force : InForce) (job : ℕ) (row : JobRow) (at now : ℤ) → IsSound table → is_by_period table job ≡ false
+    → MayStart table force job row at now → IsNextDue table force.version job (started_after force row) at × (at ≤ℤ now)
+may_start_next table force job row at now sound not (inl next) = next
+may_start_next table force job row at now sound not (inr opens) =
+    absurd (true≢false (sym (opening_says table force.version job row.last row.cursor now at sound opens) ∙ not))
 
 -- and where none is left it may not be started
-no_next_start : (table : Table) (job : ℕ) (row : JobRow) → IsSound table → is_by_period table job ≡ false → ((t : ℤ) → IsJobDue table 0 job t → IsAfter row.cursor t → ⊥)
-    → (at now : ℤ) → MayStart table job row at now → ⊥
-no_next_start table job row sound not none at now may =
-    let next = (may_start_next table job row at now sound not may).0 in
+no_next_start : (table : Table) (force : InForce) (job : ℕ) (row : JobRow) → IsSound table → is_by_period table job ≡ false
+    → ((t : ℤ) → IsJobDue table force.version job t → IsAfter (started_after force row) t → ⊥) → (at now : ℤ) → MayStart table force job row at now → ⊥
+no_next_start table force job row sound not none at now may =
+    let next = (may_start_next table force job row at now sound not may).0 in
     none at next.due next.later
 
 -- the first instant at which it may open
-pub first_is_opening : (table : Table) (job : ℕ) (row : JobRow) (first : ℤ) → IsFirstOpening table 0 job row.last row.cursor first → IsFirstToStart table job row first
-first_is_opening table job row first opening = record {
-  at = opening.date;
-  may = inr opening.opens;
-  least = λ other now may.
-      opening.least now other
-      (may_start_on table job row other now (opens_by_period table job row.last row.cursor first opening.date opening.opens) may);
-}
+pub first_is_opening : (table : Table) (force : InForce) (job : ℕ) (row : JobRow) (first : ℤ) → IsFirstOpening table force.version job row.last row.cursor first
+    → IsFirstToStart table force job row first
+first_is_opening table force job row first opening = record { at = opening.date; may = inr opening.opens; least = least }
+  where
+    least : (other now : ℤ) → MayStart table force job row other now → first ≤ℤ now
+    least other now (inr opens) = opening.least now other opens
+    least other now (inl (next, come)) = absurd (due_or_opens table force.version job row.last row.cursor other first opening.date next.due opening.opens)
 
-no_opening_start : (table : Table) (job : ℕ) (row : JobRow) → IsSound table → is_by_period table job ≡ true
-    → ((now date : ℤ) → IsJobOpen table 0 job row.last row.cursor now date → ⊥) → (at now : ℤ) → MayStart table job row at now → ⊥
-no_opening_start table job row sound by none at now may = none now at (may_start_by table job row at now sound by may)
+no_opening_start : (table : Table) (force : InForce) (job : ℕ) (row : JobRow) → IsSound table → is_by_period table job ≡ true
+    → ((now date : ℤ) → IsJobOpen table force.version job row.last row.cursor now date → ⊥) → (at now : ℤ) → MayStart table force job row at now → ⊥
+no_opening_start table force job row sound by none at now may = none now at (may_start_by table force job row at now sound by may)
 
 -- what was found is the first instant
-pub first_by_due : (table : Table) (job : ℕ) (row : JobRow) (found : Option ℤ) → IsSound table → is_by_period table job ≡ false → IfSome found (IsNextDue table 0 job row.cursor)
-    → IfNone found ((t : ℤ) → IsJobDue table 0 job t → IsAfter row.cursor t → ⊥) → IsFirstStartOf table job row found
-first_by_due table job row (Some first) sound not next none = first_is_next table job row first next
-first_by_due table job row None sound not next none = no_next_start table job row sound not none
+pub first_by_due : (table : Table) (force : InForce) (job : ℕ) (row : JobRow) (found : Option ℤ) → IsSound table → is_by_period table job ≡ false
+    → IfSome found (IsNextDue table force.version job (started_after force row))
+    → IfNone found ((t : ℤ) → IsJobDue table force.version job t → IsAfter (started_after force row) t → ⊥) → IsFirstStartOf table force job row found
+first_by_due table force job row (Some first) sound not next none = first_is_next table force job row first next
+first_by_due table force job row None sound not next none = no_next_start table force job row sound not none
 
-pub first_by_opening : (table : Table) (job : ℕ) (row : JobRow) (found : Option ℤ) → IsSound table → is_by_period table job ≡ true → IfSome found (IsFirstOpening table 0 job row.last row.cursor)
-    → IfNone found ((now date : ℤ) → IsJobOpen table 0 job row.last row.cursor now date → ⊥) → IsFirstStartOf table job row found
-first_by_opening table job row (Some first) sound by opening none = first_is_opening table job row first opening
-first_by_opening table job row None sound by opening none = no_opening_start table job row sound by none
+pub first_by_opening : (table : Table) (force : InForce) (job : ℕ) (row : JobRow) (found : Option ℤ) → IsSound table → is_by_period table job ≡ true
+    → IfSome found (IsFirstOpening table force.version job row.last row.cursor)
+    → IfNone found ((now date : ℤ) → IsJobOpen table force.version job row.last row.cursor now date → ⊥) → IsFirstStartOf table force job row found
+first_by_opening table force job row (Some first) sound by opening none = first_is_opening table force job row first opening
+first_by_opening table force job row None sound by opening none = no_opening_start table force job row sound by none
 
 -- at the first instant an entry's launch is that of the instant
-pub first_may_start : (table : Table) (job : ℕ) (row : JobRow) (first now : ℤ) → IsFirstToStart table job row first → IsSound table → is_by_period table job ≡ false
-    → first ≤ℤ now → MayStart table job row first now
-first_may_start table job row first now is sound not come =
-    let next = may_start_next table job row is.at first sound not is.may in
+pub first_may_start : (table : Table) (force : InForce) (job : ℕ) (row : JobRow) (first now : ℤ) → IsFirstToStart table force job row first → IsSound table
+    → is_by_period table job ≡ false → first ≤ℤ now → MayStart table force job row first now
+first_may_start table force job row first now is sound not come =
+    let next = may_start_next table force job row is.at first sound not is.may in
     let le : first ≤ℤ is.at = is.least is.at is.at (inl (next.0, omega (arith, ints))) in
     let ge : is.at ≤ℤ first = next.1 in
     let same : is.at ≡ first = omega (arith, ints) in
-    inl (subst (IsNextDue table 0 job row.cursor) same next.0, come)
+    inl (subst (IsNextDue table force.version job (started_after force row)) same next.0, come)
 
 -- the launch that may be started at an instant is one
-pub MayStart-same : (table : Table) (job : ℕ) (row : JobRow) (a b now : ℤ) → MayStart table job row a now → MayStart table job row b now → a ≡ b
-MayStart-same table job row a b now (inl p) (inl q) = IsNextDue-same table 0 job row.cursor a b p.0 q.0
-MayStart-same table job row a b now (inr p) (inr q) = opens_on_one_date table 0 job row.last row.cursor now a b p q
-MayStart-same table job row a b now (inl p) (inr q) =
-    absurd (due_by_instant table job a p.0.due (opens_by_period table job row.last row.cursor now b q))
-MayStart-same table job row a b now (inr p) (inl q) =
-    absurd (due_by_instant table job b q.0.due (opens_by_period table job row.last row.cursor now a p))
+pub MayStart-same : (table : Table) (force : InForce) (job : ℕ) (row : JobRow) (a b now : ℤ) → MayStart table force job row a now
+    → MayStart table force job row b now → a ≡ b
+MayStart-same table force job row a b now (inl p) (inl q) = IsNextDue-same table force.version job (started_after force row) a b p.0 q.0
+MayStart-same table force job row a b now (inr p) (inr q) = opens_on_one_date table force.version job row.last row.cursor now a b p q
+MayStart-same table force job row a b now (inl p) (inr q) = absurd (due_or_opens table force.version job row.last row.cursor a now b p.0.due q)
+MayStart-same table force job row a b now (inr p) (inl q) = absurd (due_or_opens table force.version job row.last row.cursor b now a q.0.due p)
 
 pub TakesStart-same : (table : Table) (rows : List JobRow) (job : ℕ) (a b now : ℤ) → TakesStart table rows job a now → TakesStart table rows job b now → a ≡ b
 TakesStart-same table rows job a b now p q =
     let row : q.row ≡ p.row = same_row rows job q.row p.row q.is_row p.is_row in
-    MayStart-same table job p.row a b now p.may (subst (λ (r : JobRow). MayStart table job r b now) row q.may)
-
--- a job that may be started is in the table
-pub start_within : (table : Table) (job : ℕ) (row : JobRow) (at now : ℤ) → MayStart table job row at now → job < length table.jobs
-start_within table job row at now (inl (next, come)) = slice_get_within table.jobs job next.due.job next.due.is_in.is_job
-start_within table job row at now (inr opens) = slice_get_within table.jobs job opens.job opens.is_in.is_job
+    MayStart-same table (in_force table rows) job p.row a b now p.may (subst (λ (r : JobRow). MayStart table (in_force table rows) job r b now) row q.may)
 
 -- no launch is the table's own
-pub table_starts : (table : Table) (row : JobRow) → IsStartBeside table (length table.jobs) row None
-table_starts table row = record {
-  opened = λ since is. refl;
-  idle = λ is at now may. let below = start_within table (length table.jobs) row at now may in absurd (omega (arith, below));
-}
+pub table_starts : (table : Table) (force : InForce) (row : JobRow) → IsStartBeside table force (length table.jobs) row None
+table_starts table force row = record { own = λ past. refl; opened = λ since is. refl; idle = λ below is. absurd (omega (arith, below)) }
 
-pub table_calls : (table : Table) (row : JobRow) → IsCallBeside table (length table.jobs) row None
-table_calls table row at now since spec zone inside is_open cursor is_in come =
-    let below = slice_get_within table.jobs (length table.jobs) spec is_in.is_job in absurd (omega (arith, below))
+pub table_calls : (table : Table) (force : InForce) (row : JobRow) → IsCallBeside table force (length table.jobs) row None
+table_calls table force row at now since spec zone below inside is_open cursor is_in come = absurd (omega (arith, below))
+
+-- ---- what is in force
+
+-- a row of a job that is put in its place leaves what is in force
+pub force_put : (table : Table) (rows : List JobRow) (job : ℕ) (new : JobRow) → job < length table.jobs
+    → in_force table (slice_set rows job new) ≡ in_force table rows
+force_put table rows job new below =
+    let own : ℕ = length table.jobs in
+    ap force_of (get_or-set_other rows job own new (fresh_row own) (λ same. omega (arith, same, below)))
+
+-- a table's own row is one of a version up to the last
+table_row_known : (last_version : ℕ) (row : JobRow) → is_table_row last_version row ≡ true → row.launched ≤ last_version
+table_row_known last_version row is =
+    let own : Bool = if eqb row.launched 0 then not (is_some row.cursor) else is_some row.cursor in
+    let known : Bool = leb row.launched last_version && own in
+    let counts : Bool = eqb row.voided 0 && known in
+    let ended = and_parts (not (is_some row.open_now)) (not (is_some row.last) && counts) is in
+    let counted = and_parts (not (is_some row.last)) counts ended.1 in
+    let last = and_parts (eqb row.voided 0) known counted.1 in
+    leb-true row.launched last_version (and_parts (leb row.launched last_version) own last.1).0
+
+-- the table's own row is one of a version that the table has
+pub own_known : (table : Table) (rows : List JobRow) (place : ℕ) (d : JobRow) → RowsStand rows (table_size table) → place ≡ length table.jobs
+    → (get_or rows place d).launched < version_count table
+own_known table rows place d stand is =
+    let here : slice_get rows place ≡ Some (get_or rows place d) = slice_get-get_or rows place d (omega (arith, stand.numbered.count, is)) in
+    let row_is = subst (λ (k : ℕ). slice_get rows k ≡ Some (get_or rows place d)) is here in
+    omega (arith, table_row_known (length table.later) (get_or rows place d) (stand.ends (get_or rows place d) row_is))
+
+-- at first the first version is
+pub first_in_force : (table : Table) → in_force table (first_rows table) ≡ first_force
+first_in_force table =
+    let own : ℕ = length table.jobs in
+    let numbered : AreNumbered (first_rows table) (row_count (table_size table)) = AreNumbered-fresh_rows (row_count (table_size table)) in
+    let row : JobRow = get_or (first_rows table) own (fresh_row own) in
+    let here : slice_get (first_rows table) own ≡ Some row = slice_get-get_or (first_rows table) own (fresh_row own) (omega (arith, numbered.count)) in
+    ap force_of (fresh_there (row_count (table_size table)) own row here)
 
 -- the table's own row is closed
 pub ends_idle : (rows : List JobRow) (size : TableSize) (row : JobRow) → RowsStand rows size → slice_get rows size.jobs ≡ Some row → row.open_now ≡ None
@@ -331,7 +411,7 @@ start_applies table rows after job at now here d new takes here_is new_is after_
 
 -- a launch whose instant hasn't come may not be called
 pub no_call : (table : Table) (rows : List JobRow) (job : ℕ) (at now : ℤ) (d : JobRow) (result : Bool) → job < length rows → (get_or rows job d).cursor ≡ Some at
-    → ((j : Job) (zone : TimeZone) → IsJobIn table 0 job j zone → (IsTrue result ↔ HasCome j.kind zone at now)) → result ≡ false
+    → ((j : Job) (zone : TimeZone) → IsJobIn table (in_force table rows).version job j zone → (IsTrue result ↔ HasCome j.kind zone at now)) → result ≡ false
     → (other : ℤ) → MayCall table rows job other now → ⊥
 no_call table rows job at now d result lt cursor tells not other may =
     let at_d : get_or rows job d ≡ may.row = get_or_from_slice_get rows job may.row d may.is_row in
@@ -341,11 +421,12 @@ no_call table rows job at now d result lt cursor tells not other may =
     absurd (cc (yes, not))
 
 -- a launch that is open and whose instant has come may be called
-pub one_call : (table : Table) (rows : List JobRow) (job : ℕ) (at since now : ℤ) (d : JobRow) (result : Bool) → job < length rows
-    → (get_or rows job d).open_now ≡ Some since → (get_or rows job d).cursor ≡ Some at → IsJobRead table 0 job
-    → ((j : Job) (zone : TimeZone) → IsJobIn table 0 job j zone → (IsTrue result ↔ HasCome j.kind zone at now)) → result ≡ true
+pub one_call : (table : Table) (rows : List JobRow) (job : ℕ) (at since now : ℤ) (d : JobRow) (result : Bool) → job < length table.jobs → job < length rows
+    → (get_or rows job d).open_now ≡ Some since → (get_or rows job d).cursor ≡ Some at → IsJobRead table (in_force table rows).version job
+    → ((j : Job) (zone : TimeZone) → IsJobIn table (in_force table rows).version job j zone → (IsTrue result ↔ HasCome j.kind zone at now)) → result ≡ true
     → MayCall table rows job at now
-one_call table rows job at since now d result lt opened cursor read tells holds = record {
+one_call table rows job at since now d result known lt opened cursor read tells holds = record {
+  known = known;
   row = get_or rows job d;
   is_row = slice_get-get_or rows job d lt;
   since = since;
@@ -368,11 +449,11 @@ below_next P n below here k t lt p =
 -- a job outside the table has no launch
 pub no_call_from : (table : Table) (rows : List JobRow) (now : ℤ) (count : ℕ) → length table.jobs ≤ count
     → ((before : ℕ) (other : ℤ) → before < count → MayCall table rows before other now → ⊥) → NoCall table rows now
-no_call_from table rows now count le none job at may = none job at (omega (arith, slice_get_within table.jobs job may.spec may.is_in.is_job)) may
+no_call_from table rows now count le none job at may = none job at (omega (arith, may.known)) may
 
 pub no_start_from : (table : Table) (rows : List JobRow) (now : ℤ) (count : ℕ) → length table.jobs ≤ count
     → ((before : ℕ) (other : ℤ) → before < count → TakesStart table rows before other now → ⊥) → NoStart table rows now
-no_start_from table rows now count le none job at takes = none job at (omega (arith, start_within table job takes.row at now takes.may)) takes
+no_start_from table rows now count le none job at takes = none job at (omega (arith, takes.known)) takes
 
 pub closed_job : (at : ℤ) (kind : Kind) (row : JobRow) → (closed_row at kind row).job ≡ row.job
 closed_job at Launch row = refl

@@ -1,6 +1,7 @@
 -- The first instant at which a start takes effect, by what stands beside the rows.
 use Rattle.std.proofs.Common.{◌≡◌, ℕ, ◌<◌, List, Option, None, Some, ℤ, ◌≤ℤ◌, ◌≤◌, length, inl, inr, refl, subst, arith}
 use Rattle.std.specs.Prelude.{slice_get}
+use Rattle.std.proofs.lemmas.Bool.{cases_lt}
 use Rattle.std.proofs.lemmas.Bool.Decides.{leb_tells}
 use Rattle.std.proofs.lemmas.Int.{ints}
 use Rattle.std.proofs.lemmas.Option.{slice_get_within}
@@ -8,7 +9,8 @@ use Rattle.paxos_base.specs.declared.rows.JobRow.{JobRow}
 use Rattle.due_set.specs.Table.{Table}
 use Rattle.min_tree.specs.Least.{HasNone, HasNoneAtMost, IsAtMost, IsFirstAtMost, IsLeast}
 use Rattle.paxos_base.specs.Rows.{row_count}
-use Rattle.launch_machine.specs.Clerk.{TakesStart, table_size}
+use Rattle.launch_machine.specs.Clerk.{TakesStart, in_force, table_size}
+use Rattle.launch_machine.specs.declared.force.InForce.{InForce}
 use Rattle.launch_machine.specs.Intent.{MayCall}
 use Rattle.launch_machine.specs.Machine.{AreCalls, AreNextStarts, IsCallBeside, IsFirstStartOf, IsFirstToStart, IsStartBeside}
 use Rattle.launch_machine.specs.Next.{IsNextStart, StartsNoMore}
@@ -17,36 +19,41 @@ use Rattle.due_set.proofs.SoundLemmas.{at_place}
 use Rattle.zone_minutes.specs.Window.{IsInWindow}
 
 -- beside a row whose job may be started stands the first instant at which it may be
-pub record StartStands (table : Table) (starts : List (Option ℤ)) (job : ℕ) (row : JobRow) (now : ℤ) : Type 0 where
+pub record StartStands (table : Table) (force : InForce) (starts : List (Option ℤ)) (job : ℕ) (row : JobRow) (now : ℤ) : Type 0 where
   pub first : ℤ
   pub here : slice_get starts job ≡ Some (Some first)
-  pub is_first : IsFirstToStart table job row first
+  pub is_first : IsFirstToStart table force job row first
   pub come : first ≤ℤ now
 
 pub start_stands : (table : Table) (rows : List JobRow) (starts : List (Option ℤ)) (job : ℕ) (at now : ℤ) → AreNextStarts table rows starts
-    → (takes : TakesStart table rows job at now) → StartStands table starts job takes.row now
+    → (takes : TakesStart table rows job at now) → StartStands table (in_force table rows) starts job takes.row now
 start_stands table rows starts job at now known takes =
-    let found = beside_row (IsStartBeside table) rows starts job takes.row known takes.is_row in
-    by found.0 found.1 (found.2.idle takes.idle)
+    let found = beside_row (IsStartBeside table (in_force table rows)) rows starts job takes.row known takes.is_row in
+    by found.0 found.1 (found.2.idle takes.known takes.idle)
   where
-    by : (start : Option ℤ) → slice_get starts job ≡ Some start → IsFirstStartOf table job takes.row start → StartStands table starts job takes.row now
+    by : (start : Option ℤ) → slice_get starts job ≡ Some start → IsFirstStartOf table (in_force table rows) job takes.row start
+        → StartStands table (in_force table rows) starts job takes.row now
     by None here none = absurd (none at now takes.may)
     by (Some first) here is = record { first = first; here = here; is_first = is; come = is.least at now takes.may }
 
 -- where an instant stands beside a row, its job is idle, and it's the first at which it may be started
-pub record StartsAt (table : Table) (job : ℕ) (row : JobRow) (first : ℤ) : Type 0 where
+pub record StartsAt (table : Table) (force : InForce) (job : ℕ) (row : JobRow) (first : ℤ) : Type 0 where
+  pub known : job < length table.jobs
   pub idle : row.open_now ≡ None
-  pub is_first : IsFirstToStart table job row first
+  pub is_first : IsFirstToStart table force job row first
 
 pub idle_first : (table : Table) (rows : List JobRow) (starts : List (Option ℤ)) (job : ℕ) (row : JobRow) (first : ℤ) → AreNextStarts table rows starts
-    → slice_get rows job ≡ Some row → slice_get starts job ≡ Some (Some first) → StartsAt table job row first
+    → slice_get rows job ≡ Some row → slice_get starts job ≡ Some (Some first) → StartsAt table (in_force table rows) job row first
 idle_first table rows starts job row first known is_row here = by row.open_now refl
   where
-    beside : IsStartBeside table job row (Some first)
+    beside : IsStartBeside table (in_force table rows) job row (Some first)
     beside = known.each job row (Some first) is_row here
 
-    by : (open_now : Option ℤ) → row.open_now ≡ open_now → StartsAt table job row first
-    by None idle = record { idle = idle; is_first = beside.idle idle }
+    by : (open_now : Option ℤ) → row.open_now ≡ open_now → StartsAt table (in_force table rows) job row first
+    by None idle = elim (cases_lt job (length table.jobs)) [
+      | inl below ↦ record { known = below; idle = idle; is_first = beside.idle below idle }
+      | inr past ↦ absurd (cc (beside.own past))
+    ]
     by (Some since) is_open = absurd (cc (beside.opened since is_open))
 
 -- before it no start takes effect
@@ -73,7 +80,7 @@ next_start_found table rows starts first known least =
     record {
       job = least.place;
       at = at.is_first.at;
-      takes = record { row = row.0; is_row = row.1; idle = at.idle; may = at.is_first.may };
+      takes = record { known = at.known; row = row.0; is_row = row.1; idle = at.idle; may = at.is_first.may };
       least = λ other day now takes.
           let stands = start_stands table rows starts other day now known takes in
           let sooner : first ≤ℤ stands.first = least.least other stands.first stands.here in
@@ -114,8 +121,8 @@ no_start_after table rows starts now from known none rest job at takes =
 call_stands : (table : Table) (rows : List JobRow) (calls : List (Option ℤ)) (job : ℕ) (at now : ℤ) → AreCalls table rows calls → IsInWindow table.window now
     → MayCall table rows job at now → (value : Option ℤ) × (slice_get calls job ≡ Some value) × IsAtMost now value
 call_stands table rows calls job at now known inside may =
-    let found = beside_row (IsCallBeside table) rows calls job may.row known may.is_row in
-    (found.0, found.1, found.2 at now may.since may.spec may.zone inside may.is_open may.cursor may.is_in may.come)
+    let found = beside_row (IsCallBeside table (in_force table rows)) rows calls job may.row known may.is_row in
+    (found.0, found.1, found.2 at now may.since may.spec may.zone may.known inside may.is_open may.cursor may.is_in may.come)
 
 pub no_call_between : (table : Table) (rows : List JobRow) (calls : List (Option ℤ)) (now : ℤ) (from job : ℕ) → AreCalls table rows calls → IsInWindow table.window now
     → ((before : ℕ) (other : ℤ) → before < from → MayCall table rows before other now → ⊥)

@@ -1,13 +1,14 @@
 -- What a leader does next: call the first launch that may be called, or else start the first that is due.
-use Rattle.std.specs.Prelude.{◌≡◌, ℕ, ◌<◌, List, Some, ℤ, slice_get}
+use Rattle.std.specs.Prelude.{◌≡◌, ℕ, ◌<◌, List, length, Some, ℤ, slice_get}
 use Rattle.jiff.specs.Types.{TimeZone}
 use Rattle.paxos_base.specs.declared.rows.JobRow.{JobRow}
 use Rattle.due_set.specs.Table.{Table, Job, IsJobIn}
 use Rattle.due_set.specs.Calls.{HasCome}
-use Rattle.launch_machine.specs.Clerk.{TakesStart}
+use Rattle.launch_machine.specs.Clerk.{TakesStart, in_force}
 
--- the job's launch is open, and its instant or its date has come
+-- the job is in the table, its launch is open, and by the version in force its instant or its date has come
 pub record MayCall (table : Table) (rows : List JobRow) (job : ℕ) (at now : ℤ) : Type 0 where
+  pub known : job < length table.jobs
   pub row : JobRow
   pub is_row : slice_get rows job ≡ Some row
   pub since : ℤ
@@ -15,7 +16,7 @@ pub record MayCall (table : Table) (rows : List JobRow) (job : ℕ) (at now : �
   pub cursor : row.cursor ≡ Some at
   pub spec : Job
   pub zone : TimeZone
-  pub is_in : IsJobIn table 0 job spec zone
+  pub is_in : IsJobIn table (in_force table rows).version job spec zone
   pub come : HasCome spec.kind zone at now
 
 -- no launch may be called
@@ -26,10 +27,6 @@ NoCall table rows now = (job : ℕ) (at : ℤ) → MayCall table rows job at now
 pub record IsFirstCall (table : Table) (rows : List JobRow) (now : ℤ) (job : ℕ) (at : ℤ) : Type 0 where
   pub may : MayCall table rows job at now
   pub first : (before : ℕ) (other : ℤ) → before < job → MayCall table rows before other now → ⊥
-
--- no start would take effect
-abbrev pub NoStart : Table → List JobRow → ℤ → Type 0
-NoStart table rows now = (job : ℕ) (at : ℤ) → TakesStart table rows job at now → ⊥
 
 -- the first job, in the table's order, whose start would take effect
 pub record IsFirstStart (table : Table) (rows : List JobRow) (now : ℤ) (job : ℕ) (at : ℤ) : Type 0 where

@@ -4,3 +4,4 @@ pub mod Intent
 pub mod Machine
 pub mod Next
 pub mod Starts
+pub mod Versions

@@ -1,11 +1,11 @@
--- The launches that a list of entries starts and ends: each entry is applied to the rows that those before it left.
+-- The launches that a list of entries starts and ends, and the versions that it adopts: each entry is applied to the rows that those before it left.
 use Rattle.std.specs.Prelude.{◌≡◌, ◌⊎◌, ℕ, ◌+◌, List, [], ◌∷◌, ℤ}
 use Rattle.paxos_base.specs.declared.entry.Entry.{Entry}
-use Rattle.paxos_base.specs.declared.entry.Entry.TheVariants.{Start, End}
+use Rattle.paxos_base.specs.declared.entry.Entry.TheVariants.{Start, End, Table as TableEntry}
 use Rattle.paxos_base.specs.declared.entry.Kind.{Kind}
 use Rattle.paxos_base.specs.declared.rows.JobRow.{JobRow}
 use Rattle.due_set.specs.Table.{Table}
-use Rattle.launch_machine.specs.Clerk.{TakesStart, TakesEnd, Applies, first_rows}
+use Rattle.launch_machine.specs.Clerk.{TakesStart, TakesEnd, TakesTable, Applies, first_rows}
 
 -- the entry is a start of the job that takes effect
 pub record StartsJob (table : Table) (rows : List JobRow) (entry : Entry) (job : ℕ) (at : ℤ) : Type 0 where
@@ -35,6 +35,28 @@ StartsFrom table rows (entry ∷ entries) job instants =
 -- the instants of the job's starts that take effect, in the order of the entries
 abbrev pub StartsOf : Table → List Entry → ℕ → List ℤ → Type 0
 StartsOf table entries job instants = StartsFrom table (first_rows table) entries job instants
+
+-- the entry is a version that is adopted at the instant
+pub record AdoptsAt (table : Table) (rows : List JobRow) (entry : Entry) (now : ℤ) : Type 0 where
+  pub version : ℕ
+  pub is : entry ≡ TableEntry version now
+  pub takes : TakesTable table rows version now
+
+-- a version that is adopted puts its instant before those that follow
+abbrev pub AddsAdoption : Table → List JobRow → Entry → List ℤ → List ℤ → Type 0
+AddsAdoption table rows entry later instants =
+    ((now : ℤ) × AdoptsAt table rows entry now × (instants ≡ now ∷ later)) ⊎ (((now : ℤ) → AdoptsAt table rows entry now → ⊥) × (instants ≡ later))
+
+-- the instants at which versions are adopted, of entries that are applied to the rows
+abbrev pub AdoptionsFrom : Table → List JobRow → List Entry → List ℤ → Type 0
+AdoptionsFrom table rows [] instants = instants ≡ []
+AdoptionsFrom table rows (entry ∷ entries) instants =
+    (middle : List JobRow) × (later : List ℤ) × Applies table rows entry middle × AddsAdoption table rows entry later instants
+    × AdoptionsFrom table middle entries later
+
+-- the instants at which versions are adopted, in the order of the entries
+abbrev pub AdoptionsOf : Table → List Entry → List ℤ → Type 0
+AdoptionsOf table entries instants = AdoptionsFrom table (first_rows table) entries instants
 
 -- an end of the job with the kind that takes effect is one more
 abbrev pub AddsEnd : List JobRow → Entry → ℕ → Kind → ℕ → ℕ → Type 0

@@ -1,12 +1,14 @@
 //! What a leader does next.
-ghost use Rattle.std.specs.Prelude.{◌≡◌, ◌<◌, ℤ, length, IfSome, IfNone};
+ghost use Rattle.std.specs.Prelude.{◌<◌, ℤ, length, IfSome, IfNone};
 ghost use Rattle.zone_minutes.specs.Window.{IsInWindow};
-ghost use Rattle.paxos_base.specs.Rows.{row_count};
-ghost use Rattle.launch_machine.specs.Clerk.{table_size};
+ghost use Rattle.paxos_base.specs.Rows.{RowsStand};
+ghost use Rattle.due_set.specs.Table.{version_count};
+ghost use Rattle.launch_machine.specs.Clerk.{table_size, NoStart};
 ghost use Rattle.launch_machine.specs.Answers.{IsCallKind};
-ghost use Rattle.launch_machine.specs.Intent.{MayCall, NoCall, NoStart, IsFirstCall, IsFirstStart};
+ghost use Rattle.launch_machine.specs.Intent.{MayCall, NoCall, IsFirstCall, IsFirstStart};
 ghost use Rattle.launch_machine.specs.Machine.{AreCalls, AreNextStarts};
 
+use crate::force::in_force;
 use crate::next::start_at;
 use due_set::{JobTable, Kind2};
 use min_tree::LeastTree;
@@ -15,7 +17,7 @@ use zone_minutes::Minute;
 
 // The job's launch, if it is open and may be called.
 fn call_at(rows: &[JobRow], table: &JobTable, job: u32, now: Minute) -> Option<i64>
-    requires count { length rows.now ≡ row_count (table_size table.now) }
+    requires stands { RowsStand rows.now (table_size table.now) }
     requires job { job < length table.now.jobs }
     requires inside { IsInWindow table.now.window now.0 }
     ensures found { IfSome result (λ at. MayCall table.now rows.now job at now.0) }
@@ -24,7 +26,8 @@ fn call_at(rows: &[JobRow], table: &JobTable, job: u32, now: Minute) -> Option<i
     let row = rows[job as usize];
     row.open_now?;
     let at = row.cursor?;
-    if table.may_call(0, job, at, now) {
+    let version = in_force(rows, table).version;
+    if table.may_call(version, job, at, now) {
         Some(at)
     } else {
         None
@@ -38,7 +41,7 @@ pub fn first_call(
     table: &JobTable,
     now: Minute,
 ) -> Option<(u32, i64)>
-    requires count { length rows.now ≡ row_count (table_size table.now) }
+    requires stands { RowsStand rows.now (table_size table.now) }
     requires calls { AreCalls table.now rows.now calls.now }
     requires inside { IsInWindow table.now.window now.0 }
     ensures found { IfSome result (λ first. IsFirstCall table.now rows.now now.0 first.0 first.1) }
@@ -67,7 +70,7 @@ pub fn first_start(
     table: &JobTable,
     now: Minute,
 ) -> Option<(u32, i64)>
-    requires count { length rows.now ≡ row_count (table_size table.now) }
+    requires stands { RowsStand rows.now (table_size table.now) }
     requires starts { AreNextStarts table.now rows.now starts.now }
     ensures found { IfSome result (λ first. IsFirstStart table.now rows.now now.0 first.0 first.1) }
     ensures none { IfNone result (NoStart table.now rows.now now.0) }
@@ -85,13 +88,14 @@ pub fn first_start(
     None
 }
 
-/// How a launch ends that is called now.
-pub fn call_kind(table: &JobTable, job: u32, at: i64, now: Minute) -> Kind
+/// How a launch ends that is called now, by a version.
+pub fn call_kind(table: &JobTable, version: u32, job: u32, at: i64, now: Minute) -> Kind
+    requires version { version < version_count table.now }
     requires job { job < length table.now.jobs }
     requires inside { IsInWindow table.now.window now.0 }
-    ensures { IsCallKind table.now job at now.0 result }
+    ensures { IsCallKind table.now version job at now.0 result }
 {
-    match table.call_kind(0, job, at, now) {
+    match table.call_kind(version, job, at, now) {
         Kind2::OnTime => Kind::Launch,
         Kind2::Late => Kind::Void,
     }

@@ -1,12 +1,13 @@
 //! Laws of the launch table. Each is the contract of a function that does nothing.
-ghost use Rattle.std.specs.Prelude.{◌≡◌, ◌↔◌, ◌+◌, ℕ, ℤ, List, [], ◌∷◌, ◌++◌, Some, slice_get};
+ghost use Rattle.std.specs.Prelude.{false, ◌≡◌, ◌↔◌, ◌+◌, ◌<◌, ℕ, ℤ, length, List, [], ◌∷◌, ◌++◌, Some, slice_get};
 ghost use Rattle.paxos_base.specs.declared.entry.Entry.{Entry};
 ghost use Rattle.paxos_base.specs.declared.entry.Kind.{Kind};
 ghost use Rattle.paxos_base.specs.declared.rows.JobRow.{JobRow};
 ghost use Rattle.due_set.specs.Due.{IsRising};
-ghost use Rattle.due_set.specs.Table.{Table, IsAfter, IsDueFront, IsJobDueList, IsRunByPeriod, IsSound};
-ghost use Rattle.launch_machine.specs.Clerk.{Applies, IsClerkOf, TakesStart, rows_after};
-ghost use Rattle.launch_machine.specs.Starts.{StartsOf, EndsOf};
+ghost use Rattle.due_set.specs.Table.{Table, IsAfter, IsSound, is_by_period};
+ghost use Rattle.launch_machine.specs.Clerk.{Applies, IsClerkOf, TakesStart, in_force, rows_after};
+ghost use Rattle.launch_machine.specs.Starts.{AdoptionsOf, StartsOf, EndsOf};
+ghost use Rattle.launch_machine.specs.Versions.{IsFrontUnder, IsListUnder, RunsByInstants};
 
 /// One more entry is one more step.
 pub fn one_entry_is_one_step()
@@ -29,17 +30,17 @@ pub fn entries_leave_one_table()
 pub fn cursors_rise()
     ensures { (table : Table) (rows : List JobRow) (job : ℕ) (at now : ℤ) (old new : JobRow)
         → TakesStart table rows job at now → slice_get rows job ≡ Some old
-        → slice_get (rows_after rows (Entry.Start job at now)) job ≡ Some new
+        → slice_get (rows_after table rows (Entry.Start job at now)) job ≡ Some new
         → (new.cursor ≡ Some at) × IsAfter old.cursor at }
 {}
 
 /// Each end that takes effect is counted, a launch as a launch and a void as a void, and nothing else is.
 pub fn ends_are_counted()
     ensures launched { (table : Table) (entries : List Entry) (rows : List JobRow) (job count : ℕ) (row : JobRow)
-        → IsClerkOf table entries rows → EndsOf table entries job Kind.Launch count
+        → job < length table.jobs → IsClerkOf table entries rows → EndsOf table entries job Kind.Launch count
         → slice_get rows job ≡ Some row → row.launched ≡ count }
     ensures voided { (table : Table) (entries : List Entry) (rows : List JobRow) (job count : ℕ) (row : JobRow)
-        → IsClerkOf table entries rows → EndsOf table entries job Kind.Void count
+        → job < length table.jobs → IsClerkOf table entries rows → EndsOf table entries job Kind.Void count
         → slice_get rows job ≡ Some row → row.voided ≡ count }
 {}
 
@@ -59,16 +60,33 @@ pub fn a_job_has_one_count_of_ends()
         → EndsOf table entries job kind a → EndsOf table entries job kind b → a ≡ b }
 {}
 
-/// The instants of a job's starts that take effect, or their dates, rise; where the job doesn't run by its period they are the
-/// first of its due instants, none left out.
+/// Entries adopt one list of versions, at the instants that they say; each is the one after that which was in force.
+pub fn entries_adopt_one_list_of_versions()
+    ensures some { (table : Table) → IsSound table → (entries : List Entry)
+        → (instants : List ℤ) × AdoptionsOf table entries instants }
+    ensures one { (table : Table) (entries : List Entry) (a b : List ℤ)
+        → AdoptionsOf table entries a → AdoptionsOf table entries b → a ≡ b }
+    ensures version { (table : Table) (entries : List Entry) (rows : List JobRow) (instants : List ℤ)
+        → IsClerkOf table entries rows → AdoptionsOf table entries instants → (in_force table rows).version ≡ length instants }
+{}
+
+/// The instants of a job's starts that take effect, or their dates, rise; where it runs by its due instants they are
+/// the first of its due instants by the versions in force then, none left out.
 pub fn starts_come_in_order()
     ensures rise { (table : Table) (entries : List Entry) (job : ℕ) (instants : List ℤ)
         → StartsOf table entries job instants → IsRising instants }
     ensures front { (table : Table) (entries : List Entry) (job : ℕ) (instants : List ℤ)
-        → (IsRunByPeriod table job → ⊥) → StartsOf table entries job instants → IsDueFront table 0 job instants }
-    ensures prefix { (table : Table) (entries : List Entry) (job : ℕ) (instants dues : List ℤ)
-        → (IsRunByPeriod table job → ⊥) → StartsOf table entries job instants → IsJobDueList table 0 job dues
+        (adoptions : List ℤ) → RunsByInstants table job → StartsOf table entries job instants
+        → AdoptionsOf table entries adoptions → IsFrontUnder table adoptions job instants }
+    ensures prefix { (table : Table) (entries : List Entry) (job : ℕ) (instants adoptions dues : List ℤ)
+        → RunsByInstants table job → StartsOf table entries job instants → AdoptionsOf table entries adoptions
+        → IsListUnder table adoptions job dues
         → (rest : List ℤ) × (dues ≡ instants ++ rest) }
+{}
+
+/// In a sound table a job runs by its due instants if its name has no `/`.
+pub fn a_name_without_a_slash_runs_by_instants()
+    ensures { (table : Table) (job : ℕ) → IsSound table → is_by_period table job ≡ false → RunsByInstants table job }
 {}
 
 /// At an instant one launch of a job may be started at most.

@@ -3,12 +3,14 @@ ghost use Rattle.zone_minutes.specs.Window.{IsInWindow};
 ghost use Rattle.paxos_base.specs.Rows.{RowsStand, OpenHasCursor};
 ghost use Rattle.due_set.specs.Table.{Table, IsSound};
 ghost use Rattle.launch_machine.specs.Answers.{IsEffect, IsIntent};
-ghost use Rattle.launch_machine.specs.Clerk.{Applies, first_rows, table_size};
+ghost use Rattle.launch_machine.specs.Clerk.{Applies, TakesTable, adopted_row, first_rows, table_size, with_row};
 ghost use Rattle.launch_machine.specs.Machine.{CanCount, CanRise, StandsFor};
 ghost use Rattle.launch_machine.specs.Next.{IsNextStart, StartsNoMore};
 
+use crate::adoption::takes_table;
 use crate::choice::{call_kind, first_call, first_start};
-use crate::next::{call_beside, calls_of, start_beside, starts_of, takes_start};
+use crate::force::{InForce, in_force};
+use crate::next::{call_beside, calls_of, set_starts, start_beside, starts_of, takes_start};
 use crate::row;
 use crate::row::table_size;
 use cron_io::OutOfMemory;
@@ -26,6 +28,8 @@ pub enum Effect {
     Opened,
     /// A launch has ended.
     Closed,
+    /// A version of the table is in force.
+    Adopted,
     /// Nothing.
     Ignored,
 }
@@ -152,9 +156,10 @@ impl Machine {
         ensures effect { IsEffect table.now self.old.rows entry result }
     {
         match entry {
-            Entry::Noop | Entry::Table { .. } => Effect::Ignored,
+            Entry::Noop => Effect::Ignored,
             Entry::Start { job, at, now } => self.start(table, job, at, now),
             Entry::End { job, at, kind } => self.end(table, job, at, kind),
+            Entry::Table { version, now } => self.adopt(table, version, now),
         }
     }
 
@@ -191,6 +196,37 @@ impl Machine {
         }
     }
 
+    // Applies the adoption of a version.
+    fn adopt(&mut self, table: &JobTable, version: u32, now: i64) -> Effect
+        requires stands { StandsFor table.now self.old }
+        ensures applies { Applies table.now self.old.rows (Entry.Table version now) self.new.rows }
+        ensures stands { StandsFor table.now self.new }
+        ensures effect { IsEffect table.now self.old.rows (Entry.Table version now) result }
+    {
+        if takes_table(&self.rows, &self.starts, table, version, now) {
+            self.put_version(table, version, now);
+            Effect::Adopted
+        } else {
+            Effect::Ignored
+        }
+    }
+
+    // Puts a version into the table's own row, and beside the rows when their jobs may be started by it.
+    fn put_version(&mut self, table: &JobTable, version: u32, now: i64)
+        requires stands { StandsFor table.now self.old }
+        requires takes { TakesTable table.now self.old.rows version now }
+        ensures rows { self.new.rows ≡ with_row (adopted_row version now) self.old.rows (length table.now.jobs) }
+        ensures stands { StandsFor table.now self.new }
+    {
+        let own = table.jobs() as usize;
+        self.rows[own] = row::adopted(self.rows[own], version, now);
+        let force = InForce {
+            version,
+            since: Some(now),
+        };
+        set_starts(&mut self.starts, table, force, &self.rows);
+    }
+
     // Puts the job's row in the place of the one that stands there.
     fn put(&mut self, table: &JobTable, job: u32, row: JobRow)
         requires stands { StandsFor table.now self.old }
@@ -201,8 +237,9 @@ impl Machine {
         ensures stands { StandsFor table.now self.new }
     {
         let place = job as usize;
+        let force = in_force(&self.rows, table);
         self.rows[place] = row;
-        self.starts.set(place, start_beside(table, job, row));
+        self.starts.set(place, start_beside(table, force, job, row));
         self.calls.set(place, call_beside(table, job, row));
     }
 
@@ -213,7 +250,8 @@ impl Machine {
         ensures { IsIntent table.now self.now.rows now.0 result }
     {
         if let Some((job, at)) = first_call(&self.rows, &self.calls, table, now) {
-            let kind = call_kind(table, job, at, now);
+            let version = in_force(&self.rows, table).version;
+            let kind = call_kind(table, version, job, at, now);
             return Intent::Call { job, at, kind };
         }
         match first_start(&self.rows, &self.starts, table, now) {

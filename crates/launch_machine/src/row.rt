@@ -2,7 +2,7 @@
 ghost use Rattle.std.specs.Prelude.{◌≡◌, ◌↔◌, ◌+◌, ◌<◌, ◌^◌, IfOk, IsTrue};
 ghost use Rattle.paxos_base.specs.Rows.{fresh_rows, row_count};
 ghost use Rattle.due_set.specs.Table.{IsSound};
-ghost use Rattle.launch_machine.specs.Clerk.{TakesEnd, opened_row, closed_row, table_size};
+ghost use Rattle.launch_machine.specs.Clerk.{TakesEnd, adopted_row, opened_row, closed_row, table_size};
 
 use cron_io::OutOfMemory;
 use due_set::JobTable;
@@ -48,6 +48,17 @@ pub fn opened(row: JobRow, at: i64, now: i64) -> JobRow
     JobRow {
         cursor: Some(at),
         open_now: Some(now),
+        ..row
+    }
+}
+
+/// The table's own row once a version is adopted.
+pub fn adopted(row: JobRow, version: u32, now: i64) -> JobRow
+    ensures { result ≡ adopted_row version now row }
+{
+    JobRow {
+        cursor: Some(now),
+        launched: version,
         ..row
     }
 }

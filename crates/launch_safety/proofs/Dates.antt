@@ -119,7 +119,7 @@ abbrev opened : Option ℤ → ℕ → ℤ → ℤ → JobRow
 opened last count now date = record (idle last count) { cursor = Some date; open_now = Some now }
 
 takes_start : (last : Option ℤ) (count : ℕ) (now date : ℤ) → IsOn now date → IsAfter last date → IsOverSince (Days 1) last date → TakesStart daily (with_table (idle last count)) 0 date now
-takes_start last count now date on later over = record { row = idle last count; is_row = refl; idle = refl; may = inr (opens last last now date on later over) }
+takes_start last count now date on later over = record { known = lit< tt; row = idle last count; is_row = refl; idle = refl; may = inr (opens last last now date on later over) }
 
 no_call : (last : Option ℤ) (count : ℕ) (now : ℤ) → NoCall daily (with_table (idle last count)) now
 no_call last count now zero at may = let row : idle last count ≡ may.row = cc in let shut : None ≡ Some may.since = ap (λ r. r.open_now) row ∙ may.is_open in cc
@@ -130,7 +130,7 @@ start_asked : (last : Option ℤ) (count : ℕ) (now date : ℤ) → IsOn now da
 start_asked last count now date on later over =
     (no_call last count now, record { takes = takes_start last count now date on later over; first = λ before other less it. absurd (omega (arith, less)) })
 
-call_kind : (now date : ℤ) → IsOn now date → IsCallKind daily 0 date now Launch
+call_kind : (now date : ℤ) → IsOn now date → IsCallKind daily 0 0 date now Launch
 call_kind now date on spec zone is_in =
     let one = only_one spec zone is_in in
     subst (λ (job : Job). (Launch ≡ Launch) ↔ IsOnTime job.kind zone 0 date now) one.0 ((λ it. shown_on now date zone on one.1), (λ it. refl))
@@ -139,6 +139,7 @@ call_asked : (last : Option ℤ) (count : ℕ) (now date : ℤ) → IsOn now dat
 call_asked last count now date on = (
   record {
     may = record {
+      known = lit< tt;
       row = opened last count now date;
       is_row = refl;
       since = now;

@@ -1,5 +1,5 @@
 -- The entries of a log that take effect, and one more entry.
-use Rattle.std.proofs.Common.{◌≡◌, ◌⊎◌, ◌+◌, inl, inr, List, [], ◌∷◌, ◌++◌, length, refl, sym, ap, ◌∙◌, subst, arith, length-append}
+use Rattle.std.proofs.Common.{◌≡◌, ◌⊎◌, ℕ, ◌+◌, ℤ, inl, inr, List, [], ◌∷◌, ◌++◌, length, refl, sym, ap, ◌∙◌, subst, arith, length-append}
 use Rattle.std.specs.Prelude.{Contains}
 use Rattle.std.proofs.lemmas.List.{append_assoc}
 use Rattle.paxos_base.specs.declared.entry.Entry.{Entry}
@@ -8,9 +8,9 @@ use Rattle.paxos_base.specs.declared.rows.JobRow.{JobRow}
 use Rattle.due_set.specs.Table.{Table}
 use Rattle.due_set.proofs.Rising.{Contains-cases, Contains-none}
 use Rattle.cluster_sched.specs.declared.row.SchedRow.{SchedRow}
-use Rattle.launch_machine.specs.Clerk.{IsClerkOf, TakesEffect, first_rows}
+use Rattle.launch_machine.specs.Clerk.{IsClerkOf, TakesEffect, TakesStart, first_rows, in_force}
 use Rattle.launch_machine.proofs.ClerkLemmas.{AppliesAll-same}
-use Rattle.launch_safety.specs.Fits.{AreAllEffective, IsBacked, IsEffective}
+use Rattle.launch_safety.specs.Fits.{AreAllEffective, HasStart, IsBacked, IsEffective, IsStartedUnder}
 
 pub IsEffective-more : (table : Table) (log more : List Entry) (entry : Entry) → IsEffective table log entry → IsEffective table (log ++ more) entry
 IsEffective-more table log more entry known = record {
@@ -124,9 +124,43 @@ effective_each table log entry all h =
     let found = split_at log entry h in
     record { before = found.0; after = found.1; parts = found.2; takes = all found.0 found.1 entry found.2 }
 
+-- ---- starts under a version
+
+-- it is a start
+abbrev pub was_started : (table : Table) (log : List Entry) (version job : ℕ) (at : ℤ) → IsStartedUnder table log version job at → HasStart table log job at
+was_started table log version job at known =
+    (known.now, record { before = known.before; after = known.after; parts = known.parts; takes = (known.rows, known.clerk, known.takes) })
+
+pub started_more : (table : Table) (log more : List Entry) (version job : ℕ) (at : ℤ) → IsStartedUnder table log version job at
+    → IsStartedUnder table (log ++ more) version job at
+started_more table log more version job at known = record {
+  now = known.now;
+  before = known.before;
+  after = known.after ++ more;
+  parts = ap (λ (l : List Entry). l ++ more) known.parts ∙ append_assoc known.before (Start job at known.now ∷ known.after) more;
+  rows = known.rows;
+  clerk = known.clerk;
+  takes = known.takes;
+  in_force = known.in_force;
+}
+
+pub started_last : (table : Table) (log : List Entry) (rows : List JobRow) (version job : ℕ) (at now : ℤ) → IsClerkOf table log rows → TakesStart table rows job at now
+    → (in_force table rows).version ≡ version → IsStartedUnder table (log ++ Start job at now ∷ []) version job at
+started_last table log rows version job at now clerk takes is = record {
+  now = now;
+  before = log;
+  after = [];
+  parts = refl;
+  rows = rows;
+  clerk = clerk;
+  takes = takes;
+  in_force = is;
+}
+
 pub IsBacked-more : (table : Table) (log more : List Entry) (row : SchedRow) → IsBacked table log row → IsBacked table (log ++ more) row
 IsBacked-more table log more row known = record {
-  start = (known.start.0, IsEffective-more table log more (Start row.name.job row.name.at known.start.0) known.start.1);
+  version = known.version;
+  start = started_more table log more known.version row.name.job row.name.at known.start;
   spec = known.spec;
   zone = known.zone;
   is_in = known.is_in;

@@ -1,6 +1,6 @@
 -- What follows where the log and what is held fit together.
 use Rattle.std.proofs.Common.{◌≡◌, ◌≢◌, ℕ, ◌<◌, inl, inr, ◌↔◌, List, ◌∷◌, ◌++◌, length, get_or, Some, ℤ, ◌<ℤ◌, sym, ap, ◌∙◌, subst}
-use Rattle.std.specs.Prelude.{Contains, slice_get}
+use Rattle.std.specs.Prelude.{Contains}
 use Rattle.std.proofs.lemmas.Bool.{cases_order}
 use Rattle.std.proofs.lemmas.List.{get_or_default}
 use Rattle.std.proofs.lemmas.List.Elements.{All-contains}
@@ -9,22 +9,23 @@ use Rattle.paxos_base.specs.declared.entry.Entry.{Entry}
 use Rattle.paxos_base.specs.declared.entry.Entry.TheVariants.{End}
 use Rattle.paxos_base.specs.declared.entry.Kind.{Kind}
 use Rattle.paxos_base.specs.declared.entry.Kind.TheVariants.{Launch}
-use Rattle.paxos_base.specs.declared.rows.JobRow.{JobRow}
 use Rattle.due_set.specs.Anacron.{IsPeriodOver}
 use Rattle.due_set.specs.Calls.{HasCome, IsOnTime}
 use Rattle.due_set.specs.Due.{IsRising}
-use Rattle.due_set.specs.Table.{Job, Table, IsDueFront, IsJobDue, IsJobIn, IsRunByPeriod}
+use Rattle.due_set.specs.Table.{Job, Table, IsJobDue, IsJobIn, IsRunByPeriod, job_of_version}
 use Rattle.due_set.specs.declared.job.JobKind.TheVariants.{Anacron}
 use Rattle.due_set.specs.declared.job.Period.{Period}
 use Rattle.cluster_sched.specs.Held.{AreNamedOnce}
 use Rattle.cluster_sched.specs.declared.row.Name.{Name}
 use Rattle.cluster_sched.specs.declared.row.SchedRow.{SchedRow}
-use Rattle.launch_machine.specs.Clerk.{IsClerkOf, TakesEnd}
-use Rattle.launch_machine.specs.Starts.{StartsOf}
+use Rattle.launch_machine.specs.Starts.{AdoptionsOf, StartsOf}
+use Rattle.launch_machine.specs.Versions.{IsFrontUnder, RunsByInstants}
 use Rattle.launch_machine.proofs.MachineLemmas.{opens_by_period}
-use Rattle.launch_safety.specs.Fits.{Fits, HasStart, HasEnd, IsBacked}
+use Rattle.launch_safety.specs.Fits.{Fits, HasStart, HasEnd, IsBacked, IsStartedUnder}
 use Rattle.launch_safety.specs.Launched.{IsWanted, LaunchesEachDue, OpensBy}
-use Rattle.launch_safety.proofs.CoverLemmas.{HasStart-more, IsCovered, clerk_covers}
+use Rattle.launch_safety.proofs.CoverLemmas.{HasStart-more}
+use Rattle.launch_safety.proofs.EffectLemmas.{was_started}
+use Rattle.launch_safety.proofs.OpenLemmas.{start_before}
 
 pub name_is : (a b : Name) → a.job ≡ b.job → a.at ≡ b.at → a ≡ b
 name_is a b size instants =
@@ -73,23 +74,15 @@ backed_row table log held row fits among = All-contains (IsBacked table log) hel
 
 pub held_started : (table : Table) (log : List Entry) (held : List SchedRow) (row : SchedRow) → Fits table log held → Contains held row
     → HasStart table log row.name.job row.name.at
-held_started table log held row fits among = (backed_row table log held row fits among).start
+held_started table log held row fits among =
+    let known = backed_row table log held row fits among in was_started table log known.version row.name.job row.name.at known.start
 
 pub held_called : (table : Table) (log : List Entry) (held : List SchedRow) (row : SchedRow) → Fits table log held → Contains held row
-    → (job : Job) × (zone : TimeZone) × IsJobIn table 0 row.name.job job zone × HasCome job.kind zone row.name.at row.now.0
-    × ((row.kind ≡ Launch) ↔ IsOnTime job.kind zone table.grace row.name.at row.now.0)
+    → (version : ℕ) × (job : Job) × (zone : TimeZone) × IsStartedUnder table log version row.name.job row.name.at × IsJobIn table version row.name.job job zone
+    × HasCome job.kind zone row.name.at row.now.0 × ((row.kind ≡ Launch) ↔ IsOnTime job.kind zone table.grace row.name.at row.now.0)
 held_called table log held row fits among =
     let known = backed_row table log held row fits among in
-    (known.spec, known.zone, known.is_in, known.come, known.kind known.spec known.zone known.is_in)
-
--- an end that takes effect closes a launch that was started
-pub start_before : (table : Table) (before : List Entry) (rows : List JobRow) (job : ℕ) (at : ℤ) → IsClerkOf table before rows → TakesEnd rows job at
-    → HasStart table before job at
-start_before table before rows job at clerk takes =
-    let known : IsCovered table before job takes.row.cursor takes.row.open_now = clerk_covers table before rows job clerk takes.row takes.is_row in
-    let at_cursor = subst (λ o. IsCovered table before job o takes.row.open_now) takes.cursor known in
-    let covered : IsCovered table before job (Some at) (Some takes.since) = subst (IsCovered table before job (Some at)) takes.is_open at_cursor in
-    covered.0
+    (known.version, known.spec, known.zone, known.start, known.is_in, known.come, known.kind known.spec known.zone known.is_in)
 
 pub start_before_end : (table : Table) (log : List Entry) (job : ℕ) (at : ℤ) (kind : Kind) → HasEnd table log job at kind
     → (before : List Entry) × (after : List Entry) × (log ≡ before ++ End job at kind ∷ after) × HasStart table before job at
@@ -107,16 +100,17 @@ pub starts_of_fits : (table : Table) (log : List Entry) (held : List SchedRow) (
 starts_of_fits table log held job fits =
     let known = fits.in_order job in (known.instants, known.starts, known.rising)
 
-pub front_of_fits : (table : Table) (log : List Entry) (held : List SchedRow) (job : ℕ) → Fits table log held → (IsRunByPeriod table job → ⊥)
-    → (instants : List ℤ) × StartsOf table log job instants × IsDueFront table 0 job instants
-front_of_fits table log held job fits other =
-    let known = fits.in_order job in (known.instants, known.starts, known.first other)
+pub front_of_fits : (table : Table) (log : List Entry) (held : List SchedRow) (job : ℕ) → Fits table log held → RunsByInstants table job
+    → (instants : List ℤ) × (adoptions : List ℤ) × StartsOf table log job instants × AdoptionsOf table log adoptions × IsFrontUnder table adoptions job instants
+front_of_fits table log held job fits plain =
+    let known = fits.in_order job in (known.instants, known.adoptions, known.starts, known.adopted, known.first plain)
 
-pub apart_of_fits : (table : Table) (log : List Entry) (held : List SchedRow) (a b : SchedRow) (job : Job) (period : Period) (first last : ℕ)
+pub apart_of_fits : (table : Table) (log : List Entry) (held : List SchedRow) (a b : SchedRow) (version : ℕ) (job : Job) (period : Period) (first last : ℕ)
     → Fits table log held → Contains held a → Contains held b → a.name.job ≡ b.name.job → a.kind ≡ Launch → b.kind ≡ Launch → a.name.at <ℤ b.name.at
-    → slice_get table.jobs a.name.job ≡ Some job → job.kind ≡ Anacron period first last → IsPeriodOver period a.name.at b.name.at
-apart_of_fits table log held a b job period first last fits in_a in_b size a_launch b_launch lt is_job kind =
-    fits.apart a b in_a in_b size a_launch b_launch lt job period first last is_job kind
+    → IsStartedUnder table log version b.name.job b.name.at → job_of_version table version b.name.job ≡ Some job → job.kind ≡ Anacron period first last
+    → IsPeriodOver period a.name.at b.name.at
+apart_of_fits table log held a b version job period first last fits in_a in_b size a_launch b_launch lt start is_job kind =
+    fits.apart a b in_a in_b size a_launch b_launch lt version start job period first last is_job kind
 
 -- where each due instant is launched, one row is held for each, a launch
 pub launched_each : (table : Table) (held : List SchedRow) (job : ℕ) (at : ℤ) → LaunchesEachDue table held → IsJobDue table 0 job at

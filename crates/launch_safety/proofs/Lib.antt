@@ -5,6 +5,8 @@
 --   letter (`history::PlainLemmas`: `step_plain`, `step_calls`, `step_origin`).
 -- - More votes leave what is chosen, so the log of later turns goes on after the log of earlier ones (`LogLemmas`:
 --   `log_goes_on`).
+-- - A launch that is open was started under the version in force, since none is adopted while one is open
+--   (`OpenLemmas`: `start_under`).
 -- - A replica's launch table is that of a prefix of the log, so what it calls was started there: the row is backed
 --   (`Turns`: `turn_calls`).
 -- - A row that is held or late is that of such a call, and what backs it stays in the log (`Invariant`: `held`,
@@ -21,6 +23,7 @@
 --   (`Whole`: `end_held`, `entry_takes`).
 -- - So the entries leave a launch table one after another, a job's starts come in order, and its launches are a
 --   period apart (`Whole`: `log_clerk`, `whole`).
+-- - No vote is for the adoption of a version, so the first stays in force (`Whole`: `none_adopted`, `front_force`).
 --
 -- Each start and each call was asked for at its reading:
 -- - A step votes for what a letter asks for, or offers an entry by its first act; it offers a start at a tick alone,
@@ -45,6 +48,7 @@ pub mod Invariant
 pub mod LogLemmas
 pub mod Offers
 pub mod OnceLemmas
+pub mod OpenLemmas
 pub mod OrderLemmas
 pub mod PartLemmas
 pub mod PeriodLemmas

@@ -1,5 +1,5 @@
 -- A launch ends once at most: its job's row passes its instant when it ends, and is open behind it alone from then on.
-use Rattle.std.proofs.Common.{◌≡◌, ℕ, ◌≤◌, inl, inr, List, [], ◌∷◌, ◌++◌, get_or, Option, None, Some, ℤ, ◌≤ℤ◌, ◌<ℤ◌, refl, sym, ap, ◌∙◌, subst, arith}
+use Rattle.std.proofs.Common.{◌≡◌, ℕ, ◌<◌, ◌≤◌, inl, inr, List, [], ◌∷◌, ◌++◌, length, get_or, Option, None, Some, ℤ, ◌≤ℤ◌, ◌<ℤ◌, refl, sym, ap, ◌∙◌, subst, arith}
 use Rattle.std.specs.List.{slice_get}
 use Rattle.std.proofs.lemmas.Int.{ints}
 use Rattle.paxos_base.specs.Rows.{fresh_row}
@@ -9,11 +9,12 @@ use Rattle.paxos_base.specs.declared.entry.Kind.{Kind}
 use Rattle.paxos_base.specs.declared.entry.Kind.TheVariants.{Launch, Void}
 use Rattle.paxos_base.specs.declared.rows.JobRow.{JobRow}
 use Rattle.due_set.specs.Table.{IsAfter, Table}
-use Rattle.launch_machine.specs.Clerk.{Applies, AppliesAll, TakesEnd, TakesStart, closed_row, first_rows, opened_row, with_row}
+use Rattle.launch_machine.specs.Clerk.{Applies, AppliesAll, TakesEnd, TakesStart, adopted_row, closed_row, first_rows, in_force, opened_row, with_row}
 use Rattle.launch_machine.proofs.ClerkLemmas.{AppliesAll-same}
-use Rattle.launch_machine.proofs.MachineLemmas.{set_there}
+use Rattle.launch_machine.proofs.MachineLemmas.{open_within, set_there}
 use Rattle.std.proofs.lemmas.Bool.{cases_eq}
 use Rattle.launch_machine.proofs.StartLemmas.{changed, may_start_later}
+use Rattle.launch_machine.proofs.VersionRows.{clerk_stands}
 use Rattle.launch_safety.specs.Fits.{TakesEffectAfter}
 use Rattle.launch_safety.proofs.EffectLemmas.{split_order}
 use Rattle.agreement.specs.Log.{IsLog}
@@ -43,7 +44,7 @@ passed_start : (table : Table) (at : ℤ) (rows middle : List JobRow) (job : ℕ
 passed_start table at rows middle job later now takes e known row is_row =
     let opened : opened_row later now takes.row ≡ row = changed (opened_row later now) rows job takes.row row takes.is_row (ap (λ (m : List JobRow). slice_get m job) (sym e) ∙ is_row) in
     let idle : IsPast at takes.row.cursor None = subst (IsPast at takes.row.cursor) takes.idle (known takes.row takes.is_row) in
-    subst (λ (r : JobRow). IsPast at r.cursor r.open_now) opened (start_past at later takes.row.cursor idle (may_start_later table job takes.row later now takes.may))
+    subst (λ (r : JobRow). IsPast at r.cursor r.open_now) opened (start_past at later takes.row.cursor idle (may_start_later table (in_force table rows) job takes.row later now takes.may))
 
 closed_past : (at ends : ℤ) (kind : Kind) (old : JobRow) → IsPast at old.cursor None → IsPast at (closed_row ends kind old).cursor (closed_row ends kind old).open_now
 closed_past at ends Launch old past = past
@@ -60,27 +61,31 @@ passed_end at rows middle job ends kind takes e known row is_row =
     let past : IsPast at takes.row.cursor (Some takes.since) = subst (IsPast at takes.row.cursor) takes.is_open (known takes.row takes.is_row) in
     subst (λ (r : JobRow). IsPast at r.cursor r.open_now) closed (closed_past at ends kind takes.row (end_past at takes.row.cursor takes.since past))
 
-passed_next : (table : Table) (at : ℤ) (rows middle : List JobRow) (entry : Entry) (job : ℕ) → Applies table rows entry middle → HasPassed at rows job → HasPassed at middle job
-passed_next table at rows middle entry job (inr (not, e)) known = passed_left at rows middle job (ap (λ (m : List JobRow). slice_get m job) e) known
-passed_next table at rows middle Noop job (inl (takes, e)) known = absurd takes
-passed_next table at rows middle (TableEntry version now) job (inl (takes, e)) known = absurd takes
-passed_next table at rows middle (Start j later now) job (inl (takes, e)) known = elim (cases_eq job j) [
+passed_next : (table : Table) (at : ℤ) (rows middle : List JobRow) (entry : Entry) (job : ℕ) → job < length table.jobs → Applies table rows entry middle → HasPassed at rows job → HasPassed at middle job
+passed_next table at rows middle entry job known_job (inr (not, e)) known = passed_left at rows middle job (ap (λ (m : List JobRow). slice_get m job) e) known
+passed_next table at rows middle Noop job known_job (inl (takes, e)) known = absurd takes
+passed_next table at rows middle (TableEntry version now) job known_job (inl (takes, e)) known =
+    let own : ℕ = length table.jobs in
+    passed_left at rows middle job
+    (ap (λ (m : List JobRow). slice_get m job) e
+    ∙ set_there rows own job (adopted_row version now (get_or rows own (fresh_row own))) (λ same. omega (arith, same, known_job))) known
+passed_next table at rows middle (Start j later now) job known_job (inl (takes, e)) known = elim (cases_eq job j) [
   | inl same ↦ passed_start table at rows middle job later now (subst (λ (k : ℕ). TakesStart table rows k later now) (sym same) takes)
       (e ∙ ap (with_row (opened_row later now) rows) (sym same)) known
   | inr ne ↦ passed_left at rows middle job
       (ap (λ (m : List JobRow). slice_get m job) e ∙ set_there rows j job (opened_row later now (get_or rows j (fresh_row j))) ne) known
 ]
-passed_next table at rows middle (End j ends kind) job (inl (takes, e)) known = elim (cases_eq job j) [
+passed_next table at rows middle (End j ends kind) job known_job (inl (takes, e)) known = elim (cases_eq job j) [
   | inl same ↦ passed_end at rows middle job ends kind (subst (λ (k : ℕ). TakesEnd rows k ends) (sym same) takes)
       (e ∙ ap (with_row (closed_row ends kind) rows) (sym same)) known
   | inr ne ↦ passed_left at rows middle job
       (ap (λ (m : List JobRow). slice_get m job) e ∙ set_there rows j job (closed_row ends kind (get_or rows j (fresh_row j))) ne) known
 ]
 
-passed_along : (table : Table) (at : ℤ) (rows last : List JobRow) (entries : List Entry) (job : ℕ) → AppliesAll table rows entries last → HasPassed at rows job → HasPassed at last job
-passed_along table at rows last [] job e known = passed_left at rows last job (ap (λ (m : List JobRow). slice_get m job) e) known
-passed_along table at rows last (entry ∷ entries) job (middle, step, rest) known =
-    passed_along table at middle last entries job rest (passed_next table at rows middle entry job step known)
+passed_along : (table : Table) (at : ℤ) (rows last : List JobRow) (entries : List Entry) (job : ℕ) → job < length table.jobs → AppliesAll table rows entries last → HasPassed at rows job → HasPassed at last job
+passed_along table at rows last [] job known_job e known = passed_left at rows last job (ap (λ (m : List JobRow). slice_get m job) e) known
+passed_along table at rows last (entry ∷ entries) job known_job (middle, step, rest) known =
+    passed_along table at middle last entries job known_job rest (passed_next table at rows middle entry job known_job step known)
 
 -- entries that come first leave rows on which the others go on
 applied_split : (table : Table) (old last : List JobRow) (xs ys : List Entry) → AppliesAll table old (xs ++ ys) last
@@ -102,7 +107,7 @@ no_second table before middle job at one other (rows, clerk, takes) (last, clerk
     let parts = applied_split table (first_rows table) last before (End job at one ∷ middle) clerk_last in
     let (left, left_by, (next, step, rest)) = parts in
     let same : left ≡ rows = AppliesAll-same table (first_rows table) before left rows left_by clerk in
-    let passed : HasPassed at last job = passed_along table at next last middle job rest (ended next (subst (λ (r : List JobRow). Applies table r (End job at one) next) same step)) in
+    let passed : HasPassed at last job = passed_along table at next last middle job (open_within table rows job at (clerk_stands table before rows clerk) takes) rest (ended next (subst (λ (r : List JobRow). Applies table r (End job at one) next) same step)) in
     let past : IsPast at again.row.cursor again.row.open_now = passed again.row again.is_row in
     let open_past : IsPast at again.row.cursor (Some again.since) = subst (IsPast at again.row.cursor) again.is_open past in
     let here : IsPast at (Some at) (Some again.since) = subst (λ (c : Option ℤ). IsPast at c (Some again.since)) again.cursor open_past in

@@ -9,19 +9,23 @@ use Rattle.due_set.specs.Table.{Table, IsSound}
 use Rattle.cluster_sched.specs.Held.{AreNamedOnce}
 use Rattle.cluster_sched.specs.declared.row.SchedRow.{SchedRow}
 use Rattle.launch_machine.specs.Clerk.{IsClerkOf, first_rows}
-use Rattle.launch_machine.proofs.ExistLemmas.{clerk_exists, starts_exist}
-use Rattle.launch_machine.proofs.StartLemmas.{starts_front, starts_rise}
+use Rattle.launch_machine.proofs.ExistLemmas.{adoptions_exist, clerk_exists, starts_exist}
+use Rattle.launch_machine.proofs.StartLemmas.{starts_rise}
+use Rattle.launch_machine.proofs.UnderLemmas.{starts_under}
 use Rattle.launch_safety.specs.Fits.{Fits, HasEnd, IsBacked, IsHeld, StartsInOrder}
 use Rattle.launch_safety.proofs.PeriodLemmas.{started_apart}
 
 pub in_order : (table : Table) (log : List Entry) (rows : List JobRow) (job : ℕ) → IsClerkOf table log rows → StartsInOrder table log job
 in_order table log rows job clerk =
     let found = starts_exist table (first_rows table) log rows job clerk in
+    let adopted = adoptions_exist table (first_rows table) log rows clerk in
     record {
       instants = found.0;
+      adoptions = adopted.0;
       starts = found.1;
+      adopted = adopted.1;
       rising = starts_rise table log job found.0 found.1;
-      first = λ other. starts_front table log job found.0 other found.1;
+      first = λ plain. starts_under table log job found.0 adopted.0 plain found.1 adopted.1;
     }
 
 pub fits_whole : (table : Table) (log : List Entry) (held : List SchedRow) → IsSound table → AreNamedOnce held → All (IsBacked table log) held

@@ -1,5 +1,5 @@
 -- The launches of a job are a period apart: a row remembers the latest of those that ended.
-use Rattle.std.proofs.Common.{◌≡◌, ℕ, zero, suc, ◌+◌, inl, inr, List, [], ◌∷◌, ◌++◌, get_or, Option, None, Some, ℤ, ◌≤ℤ◌, ◌<ℤ◌, refl, sym, ap, ◌∙◌, subst, arith}
+use Rattle.std.proofs.Common.{◌≡◌, ℕ, zero, suc, ◌+◌, ◌<◌, length, inl, inr, List, [], ◌∷◌, ◌++◌, get_or, Option, None, Some, ℤ, ◌≤ℤ◌, ◌<ℤ◌, refl, sym, ap, ◌∙◌, subst, arith}
 use Rattle.std.specs.Prelude.{All, map, slice_get}
 use Rattle.std.specs.List.{range_with_len}
 use Rattle.std.proofs.lemmas.Int.{ints, by_lt_z}
@@ -11,7 +11,7 @@ use Rattle.paxos_base.specs.declared.entry.Kind.{Kind}
 use Rattle.paxos_base.specs.declared.entry.Kind.TheVariants.{Launch, Void}
 use Rattle.paxos_base.specs.declared.rows.JobRow.{JobRow}
 use Rattle.due_set.specs.Anacron.{IsJobOpen, IsOverSince}
-use Rattle.due_set.specs.Table.{Job, Table, IsAfter, IsAnacron}
+use Rattle.due_set.specs.Table.{Job, Table, IsAfter, IsAnacron, job_of_version}
 use Rattle.due_set.specs.declared.job.JobKind.TheVariants.{Anacron}
 use Rattle.due_set.specs.declared.job.Period.{Period}
 use Rattle.due_set.proofs.OpenLemmas.{IsPeriodOver-since}
@@ -19,15 +19,16 @@ use Rattle.due_set.proofs.TableLemmas.{same_job}
 use Rattle.cluster_sched.specs.Held.{AreNamedOnce}
 use Rattle.cluster_sched.specs.declared.row.SchedRow.{SchedRow}
 use Rattle.paxos_base.specs.Rows.{fresh_row, row_count}
-use Rattle.launch_machine.specs.Clerk.{Applies, AppliesAll, IsClerkOf, TakesStart, TakesEnd, TakesEffect, first_rows, opened_row, closed_row, with_row, table_size}
+use Rattle.launch_machine.specs.Clerk.{Applies, AppliesAll, IsClerkOf, MayStart, TakesStart, TakesEnd, TakesEffect, adopted_row, closed_row, first_rows, in_force, opened_row, table_size, with_row}
+use Rattle.launch_machine.specs.declared.force.InForce.{InForce}
 use Rattle.launch_machine.proofs.ClerkLemmas.{IsClerkOf-push}
-use Rattle.launch_machine.proofs.MachineLemmas.{closed_cursor, may_start_on, set_there}
+use Rattle.launch_machine.proofs.MachineLemmas.{closed_cursor, set_there}
 use Rattle.std.proofs.lemmas.Bool.{cases_eq}
 use Rattle.launch_machine.proofs.StartLemmas.{changed, may_start_later}
-use Rattle.launch_safety.specs.Fits.{ArePeriodsApart, HasStart, HasEnd, IsBacked, IsEffective, IsHeld, IsPeriodApart, TakesEffectAfter}
+use Rattle.launch_safety.specs.Fits.{ArePeriodsApart, HasStart, HasEnd, IsBacked, IsEffective, IsHeld, IsPeriodApart}
 use Rattle.launch_safety.specs.Launched.{IsCalledAt, IsLatest, OpensBy}
 use Rattle.launch_safety.proofs.CoverLemmas.{HasStart-more}
-use Rattle.launch_safety.proofs.EffectLemmas.{IsEffective-last, IsEffective-more, effective_cases, is_before, nothing_effective, split_order}
+use Rattle.launch_safety.proofs.EffectLemmas.{IsEffective-last, IsEffective-more, effective_cases, is_before, nothing_effective, split_order, was_started}
 use Rattle.launch_safety.proofs.FitLemmas.{end_started, row_once}
 
 -- a launch that was started is at most the row's cursor, and has ended where the row isn't open at it
@@ -103,7 +104,7 @@ module _ (table : Table) (log : List Entry) (rows middle : List JobRow) (job : �
       → IsStartedBy table (log ++ Start job at now ∷ []) job cursor open_now t
   started_then cursor open_now t cursor_is open_is start =
       let old = (known takes.row takes.is_row).started t start in
-      let later : old.at <ℤ at = subst (λ (c : Option ℤ). IsAfter c at) old.is (may_start_later table job takes.row at now takes.may) in
+      let later : old.at <ℤ at = subst (λ (c : Option ℤ). IsAfter c at) old.is (may_start_later table (in_force table rows) job takes.row at now takes.may) in
       let ended = old.idle takes.idle in
       record {
         at = at;
@@ -200,13 +201,18 @@ module _ (table : Table) (log : List Entry) (rows middle : List JobRow) (job : �
       newly Void last t is same last_is = absurd (cc is)
 
 -- one more entry
-dates_next : (table : Table) (log : List Entry) (rows middle : List JobRow) (entry : Entry) (job : ℕ) → IsClerkOf table log rows → Applies table rows entry middle
-    → HasDates table log rows job → HasDates table (log ++ entry ∷ []) middle job
-dates_next table log rows middle entry job clerk (inr (not, e)) known =
+dates_next : (table : Table) (log : List Entry) (rows middle : List JobRow) (entry : Entry) (job : ℕ) → job < length table.jobs → IsClerkOf table log rows
+    → Applies table rows entry middle → HasDates table log rows job → HasDates table (log ++ entry ∷ []) middle job
+dates_next table log rows middle entry job known_job clerk (inr (not, e)) known =
     dates_left table log rows middle entry job clerk (ap (λ (m : List JobRow). slice_get m job) e) known (λ t now is takes. not takes) (λ t kind is takes. not takes)
-dates_next table log rows middle Noop job clerk (inl (takes, e)) known = absurd takes
-dates_next table log rows middle (TableEntry version now) job clerk (inl (takes, e)) known = absurd takes
-dates_next table log rows middle (Start j at now) job clerk (inl (takes, e)) known =
+dates_next table log rows middle Noop job known_job clerk (inl (takes, e)) known = absurd takes
+dates_next table log rows middle (TableEntry version now) job known_job clerk (inl (takes, e)) known =
+    let own : ℕ = length table.jobs in
+    dates_left table log rows middle (TableEntry version now) job clerk
+    (ap (λ (m : List JobRow). slice_get m job) e
+    ∙ set_there rows own job (adopted_row version now (get_or rows own (fresh_row own))) (λ same. omega (arith, same, known_job))) known
+    (λ t then is again. absurd (cc is)) (λ t kind is again. absurd (cc is))
+dates_next table log rows middle (Start j at now) job known_job clerk (inl (takes, e)) known =
     elim (cases_eq job j) [
       | inl same ↦ subst (λ (k : ℕ). HasDates table (log ++ Start k at now ∷ []) middle job) same (
           dates_start table log rows middle job at now clerk (subst (λ (k : ℕ). TakesStart table rows k at now) (sym same) takes)
@@ -216,7 +222,7 @@ dates_next table log rows middle (Start j at now) job clerk (inl (takes, e)) kno
           (ap (λ (m : List JobRow). slice_get m job) e ∙ set_there rows j job (opened_row at now (get_or rows j (fresh_row j))) ne) known
           (λ t then is again. ne (cc is)) (λ t kind is again. absurd (cc is))
     ]
-dates_next table log rows middle (End j at kind) job clerk (inl (takes, e)) known =
+dates_next table log rows middle (End j at kind) job known_job clerk (inl (takes, e)) known =
     elim (cases_eq job j) [
       | inl same ↦ subst (λ (k : ℕ). HasDates table (log ++ End k at kind ∷ []) middle job) same (
           dates_end table log rows middle job at kind clerk (subst (λ (k : ℕ). TakesEnd rows k at) (sym same) takes)
@@ -228,14 +234,14 @@ dates_next table log rows middle (End j at kind) job clerk (inl (takes, e)) know
     ]
 
 -- more entries
-dates_along : (table : Table) (log entries : List Entry) (rows last : List JobRow) (job : ℕ) → IsClerkOf table log rows → AppliesAll table rows entries last
-    → HasDates table log rows job → HasDates table (log ++ entries) last job
-dates_along table log [] rows last job clerk e known =
+dates_along : (table : Table) (log entries : List Entry) (rows last : List JobRow) (job : ℕ) → job < length table.jobs → IsClerkOf table log rows
+    → AppliesAll table rows entries last → HasDates table log rows job → HasDates table (log ++ entries) last job
+dates_along table log [] rows last job known_job clerk e known =
     subst (λ (l : List Entry). HasDates table l last job) (sym (append-nil log)) (subst (λ (r : List JobRow). HasDates table log r job) (sym e) known)
-dates_along table log (entry ∷ entries) rows last job clerk (middle, step, rest) known =
+dates_along table log (entry ∷ entries) rows last job known_job clerk (middle, step, rest) known =
     let longer : IsClerkOf table (log ++ entry ∷ []) middle = (IsClerkOf-push table log entry middle).1 (rows, clerk, step) in
     subst (λ (l : List Entry). HasDates table l last job) (append_assoc log (entry ∷ []) entries)
-    (dates_along table (log ++ entry ∷ []) entries middle last job longer rest (dates_next table log rows middle entry job clerk step known))
+    (dates_along table (log ++ entry ∷ []) entries middle last job known_job longer rest (dates_next table log rows middle entry job known_job clerk step known))
 
 -- a fresh row has no cursor, and no last launch
 record IsFresh (row : JobRow) : Type 0 where
@@ -249,9 +255,9 @@ fresh_in a (suc n) zero row e =
     record { cursor = ap (λ (r : JobRow). r.cursor) (sym row_is); last = ap (λ (r : JobRow). r.last) (sym row_is) }
 fresh_in a (suc n) (suc k) row e = fresh_in (a + 1) n k row e
 
--- the rows of a log say what it started and ended
-pub clerk_dates : (table : Table) (log : List Entry) (rows : List JobRow) (job : ℕ) → IsClerkOf table log rows → HasDates table log rows job
-clerk_dates table log rows job clerk = dates_along table [] log (first_rows table) rows job refl clerk at_first
+-- the jobs' rows of a log say what it started and ended
+pub clerk_dates : (table : Table) (log : List Entry) (rows : List JobRow) (job : ℕ) → job < length table.jobs → IsClerkOf table log rows → HasDates table log rows job
+clerk_dates table log rows job known_job clerk = dates_along table [] log (first_rows table) rows job known_job refl clerk at_first
   where
     at_first : HasDates table [] (first_rows table) job
     at_first row is_row = record {
@@ -265,8 +271,8 @@ clerk_dates table log rows job clerk = dates_along table [] log (first_rows tabl
 not_again : (table : Table) (log : List Entry) (job : ℕ) (at a b : ℤ) (first : IsEffective table log (Start job at a)) → IsEffective table first.before (Start job at b) → ⊥
 not_again table log job at a b first again =
     let row = first.takes.2.row in
-    let known = (clerk_dates table first.before first.takes.0 job first.takes.1 row first.takes.2.is_row).started at (b, again) in
-    let rises : known.at <ℤ at = subst (λ (c : Option ℤ). IsAfter c at) known.is (may_start_later table job row at a first.takes.2.may) in
+    let known = (clerk_dates table first.before first.takes.0 job first.takes.2.known first.takes.1 row first.takes.2.is_row).started at (b, again) in
+    let rises : known.at <ℤ at = subst (λ (c : Option ℤ). IsAfter c at) known.is (may_start_later table (in_force table first.takes.0) job row at a first.takes.2.may) in
     omega (arith, ints, rises, known.le)
 
 -- a launch is started once
@@ -281,9 +287,10 @@ started_once table log job at a b first second =
 -- ---- a period apart
 
 -- a date on which a job may open is a period after each launch that isn't after the last
-opens_apart : (table : Table) (job : ℕ) (last cursor : Option ℤ) (now at date : ℤ) → IsJobOpen table 0 job last cursor now date → IsLaunchedBy last at → IsPeriodApart table job at date
-opens_apart table job last cursor now at date opens launched spec period first_minute last_minute is_job kind =
-    let size : opens.job ≡ spec = same_job table 0 job opens.job spec opens.is_in.is_job is_job in
+opens_apart : (table : Table) (version job : ℕ) (last cursor : Option ℤ) (now at date : ℤ) → IsJobOpen table version job last cursor now date → IsLaunchedBy last at
+    → IsPeriodApart table version job at date
+opens_apart table version job last cursor now at date opens launched spec period first_minute last_minute is_job kind =
+    let size : opens.job ≡ spec = same_job table version job opens.job spec opens.is_in.is_job is_job in
     let kinds : Anacron opens.period opens.first_minute opens.last_minute ≡ Anacron period first_minute last_minute =
     sym opens.kind ∙ ap (λ (j : Job). j.kind) size ∙ kind in
     let periods : opens.period ≡ period = cc in
@@ -292,12 +299,20 @@ opens_apart table job last cursor now at date opens launched spec period first_m
     subst (λ (l : Option ℤ). IsOverSince period l date) launched.is (subst (λ (p : Period). IsOverSince p last date) periods over) in
     IsPeriodOver-since period at launched.at date launched.le since
 
-pub start_apart : (table : Table) (before : List Entry) (job : ℕ) (at date now : ℤ) → TakesEffectAfter table before (Start job date now)
-    → HasEnd table before job at Launch → IsPeriodApart table job at date
-start_apart table before job at date now (rows, clerk, takes) ended spec period first_minute last_minute is_job kind =
-    let opens : IsJobOpen table 0 job takes.row.last takes.row.cursor now date = may_start_on table job takes.row date now (spec, is_job, subst IsAnacron (sym kind) tt) takes.may in
-    opens_apart table job takes.row.last takes.row.cursor now at date opens ((clerk_dates table before rows job clerk takes.row takes.is_row).launched at ended) spec period
-    first_minute last_minute is_job kind
+-- by the version in force one that runs by a period may be started on a date alone
+may_open : (table : Table) (force : InForce) (job : ℕ) (row : JobRow) (at now : ℤ) (spec : Job) → job_of_version table force.version job ≡ Some spec → IsAnacron spec.kind
+    → MayStart table force job row at now → IsJobOpen table force.version job row.last row.cursor now at
+may_open table force job row at now spec is_job by (inr opens) = opens
+may_open table force job row at now spec is_job by (inl (next, come)) =
+    let same : spec ≡ next.due.job = same_job table force.version job spec next.due.job is_job next.due.is_in.is_job in
+    absurd (subst IsAnacron (ap (λ (j : Job). j.kind) same ∙ next.due.kind) by)
+
+pub start_apart : (table : Table) (before : List Entry) (rows : List JobRow) (job : ℕ) (at date now : ℤ) → IsClerkOf table before rows → TakesStart table rows job date now
+    → HasEnd table before job at Launch → IsPeriodApart table (in_force table rows).version job at date
+start_apart table before rows job at date now clerk takes ended spec period first_minute last_minute is_job kind =
+    let opens = may_open table (in_force table rows) job takes.row date now spec is_job (subst IsAnacron (sym kind) tt) takes.may in
+    opens_apart table (in_force table rows).version job takes.row.last takes.row.cursor now at date opens
+    ((clerk_dates table before rows job takes.known clerk takes.row takes.is_row).launched at ended) spec period first_minute last_minute is_job kind
 
 -- a launch that was started, and is earlier than one that is started now, has ended
 ended_before : (table : Table) (log : List Entry) (job : ℕ) (earlier later : ℤ) → HasStart table log job earlier → (start : HasStart table log job later)
@@ -305,7 +320,7 @@ ended_before : (table : Table) (log : List Entry) (job : ℕ) (earlier later : �
 ended_before table log job earlier later (then, first) (now, second) lt =
     let row = second.takes.2.row in
     let known : (t : ℤ) → HasStart table second.before job t → IsStartedBy table second.before job row.cursor row.open_now t =
-    (clerk_dates table second.before second.takes.0 job second.takes.1 row second.takes.2.is_row).started in
+    (clerk_dates table second.before second.takes.0 job second.takes.2.known second.takes.1 row second.takes.2.is_row).started in
     elim (split_order first.before second.before first.after second.after (Start job earlier then) (Start job later now) (sym first.parts ∙ second.parts)) [
       | inl (same, is) ↦ absurd (not_same (cc is))
       | inr (inl found) ↦ (known earlier (then, is_before table log (Start job earlier then) first second.before found)).idle second.takes.2.idle
@@ -318,26 +333,28 @@ ended_before table log job earlier later (then, first) (now, second) lt =
     not_later : IsEffective table first.before (Start job later now) → ⊥
     not_later effective =
         let row = first.takes.2.row in
-        let known = (clerk_dates table first.before first.takes.0 job first.takes.1 row first.takes.2.is_row).started later (now, effective) in
-        let rises : known.at <ℤ earlier = subst (λ (c : Option ℤ). IsAfter c earlier) known.is (may_start_later table job row earlier then first.takes.2.may) in
+        let known = (clerk_dates table first.before first.takes.0 job first.takes.2.known first.takes.1 row first.takes.2.is_row).started later (now, effective) in
+        let rises : known.at <ℤ earlier = subst (λ (c : Option ℤ). IsAfter c earlier) known.is (may_start_later table (in_force table first.takes.0) job row earlier then first.takes.2.may) in
         omega (arith, ints, lt, rises, known.le)
 
 -- of two launches that are held the earlier ended before the later was started
 pub started_apart : (table : Table) (log : List Entry) (held : List SchedRow) → AreNamedOnce held → All (IsBacked table log) held
-    → ((job : ℕ) (at : ℤ) (kind : Kind) → HasEnd table log job at kind → IsHeld held job at kind) → ArePeriodsApart table held
-started_apart table log held once backed ended a b in_a in_b size a_launch b_launch lt =
-    let first : HasStart table log a.name.job a.name.at = (All-contains (IsBacked table log) held a backed in_a).start in
-    let second : HasStart table log a.name.job b.name.at =
-    subst (λ (j : ℕ). HasStart table log j b.name.at) (sym size) (All-contains (IsBacked table log) held b backed in_b).start in
-    let over = ended_before table log a.name.job a.name.at b.name.at first second lt in
-    let in_log : HasEnd table log a.name.job a.name.at over.0 =
-    subst (λ (l : List Entry). HasEnd table l a.name.job a.name.at over.0) (sym second.1.parts)
-    (IsEffective-more table second.1.before (Start a.name.job b.name.at second.0 ∷ second.1.after) (End a.name.job a.name.at over.0) over.1) in
-    let found = ended a.name.job a.name.at over.0 in_log in
-    let same : found.row ≡ a = row_once held found.row a once found.among in_a found.of_job found.due_at in
+    → ((job : ℕ) (at : ℤ) (kind : Kind) → HasEnd table log job at kind → IsHeld held job at kind) → ArePeriodsApart table log held
+started_apart table log held once backed ended a b in_a in_b size a_launch b_launch lt version start =
+    let row = All-contains (IsBacked table log) held a backed in_a in
+    let first : HasStart table log b.name.job a.name.at =
+    subst (λ (j : ℕ). HasStart table log j a.name.at) size (was_started table log row.version a.name.job a.name.at row.start) in
+    let second : HasStart table log b.name.job b.name.at = was_started table log version b.name.job b.name.at start in
+    let over = ended_before table log b.name.job a.name.at b.name.at first second lt in
+    let in_log : HasEnd table log b.name.job a.name.at over.0 =
+    subst (λ (l : List Entry). HasEnd table l b.name.job a.name.at over.0) (sym start.parts)
+    (IsEffective-more table start.before (Start b.name.job b.name.at start.now ∷ start.after) (End b.name.job a.name.at over.0) over.1) in
+    let found = ended b.name.job a.name.at over.0 in_log in
+    let same : found.row ≡ a = row_once held found.row a once found.among in_a (found.of_job ∙ sym size) found.due_at in
     let kind_is : over.0 ≡ Launch = sym found.of_kind ∙ ap (λ (r : SchedRow). r.kind) same ∙ a_launch in
-    start_apart table second.1.before a.name.job a.name.at b.name.at second.0 second.1.takes
-    (subst (λ (k : Kind). HasEnd table second.1.before a.name.job a.name.at k) kind_is over.1)
+    subst (λ (v : ℕ). IsPeriodApart table v b.name.job a.name.at b.name.at) start.in_force
+    (start_apart table start.before start.rows b.name.job a.name.at b.name.at start.now start.clerk start.takes
+    (subst (λ (k : Kind). HasEnd table start.before b.name.job a.name.at k) kind_is over.1))
 
 -- ---- the latest launch
 
@@ -359,6 +376,6 @@ launched_by held job now at then None none called sooner = absurd (none at then 
 launched_by held job now at then (Some last) known called sooner = record { at = last; is = refl; le = known.last then at called sooner }
 
 pub opens_after_each : (table : Table) (held : List SchedRow) (job : ℕ) (now date at then : ℤ) → OpensBy table held job now date → IsCalledAt held job at Launch then
-    → then <ℤ now → IsPeriodApart table job at date
+    → then <ℤ now → IsPeriodApart table 0 job at date
 opens_after_each table held job now date at then by called sooner =
-    opens_apart table job by.last by.last now at date by.opens (launched_by held job now at then by.last by.latest called sooner)
+    opens_apart table 0 job by.last by.last now at date by.opens (launched_by held job now at then by.last by.latest called sooner)

@@ -12,11 +12,11 @@ use Rattle.paxos_base.specs.declared.entry.Vote.{Vote}
 use Rattle.paxos_base.specs.declared.rows.JobRow.{JobRow}
 use Rattle.due_set.specs.Table.{Table}
 use Rattle.cluster_sched.specs.declared.row.SchedRow.{SchedRow}
-use Rattle.launch_machine.specs.Clerk.{TakesEnd, first_rows, table_size}
+use Rattle.launch_machine.specs.Clerk.{TakesEnd, first_rows, in_force, table_size}
 use Rattle.launch_machine.specs.Intent.{MayCall}
-use Rattle.launch_safety.specs.Fits.{HasStart, IsBacked, IsHeld}
-use Rattle.launch_safety.proofs.CoverLemmas.{HasStart-more}
-use Rattle.launch_safety.proofs.FitLemmas.{start_before}
+use Rattle.launch_safety.specs.Fits.{IsBacked, IsHeld, IsStartedUnder}
+use Rattle.launch_safety.proofs.EffectLemmas.{started_more}
+use Rattle.launch_safety.proofs.OpenLemmas.{start_under}
 use Rattle.step_spec.specs.Coherent.{IsCoherent}
 use Rattle.step_spec.specs.Folds.{calls_of}
 use Rattle.step_spec.specs.May.{AllMay, Ending, MayCallFor, MayEnter, Setting, TellsWhatWasSaid}
@@ -112,12 +112,13 @@ module _ (n : ℕ) (table : Table) (book : List Row) (few : n ≤ 7) (legal : Is
 
   -- ---- calls
 
-  -- the launch table of the replica is that of a front of the log, so what it calls was started
+  -- the launch table of the replica is that of a front of the log, so what it calls was started under the version in force there
   call_backed : (row : SchedRow) → MayCallFor setting state row → IsBacked table log row
   call_backed row may = record {
-    start = subst (λ some. HasStart table some row.name.job row.name.at) (take-append-drop (prefix_of state) log)
-        (HasStart-more table (take (prefix_of state) log) (drop (prefix_of state) log) row.name.job row.name.at
-        (start_before table (take (prefix_of state) log) may.rows row.name.job row.name.at (follows.table_is may.rows may.rows_are)
+    version = (in_force table may.rows).version;
+    start = subst (λ some. IsStartedUnder table some (in_force table may.rows).version row.name.job row.name.at) (take-append-drop (prefix_of state) log)
+        (started_more table (take (prefix_of state) log) (drop (prefix_of state) log) (in_force table may.rows).version row.name.job row.name.at
+        (start_under table (take (prefix_of state) log) may.rows row.name.job row.name.at (follows.table_is may.rows may.rows_are)
         (record { row = asked.row; is_row = asked.is_row; since = asked.since; is_open = asked.is_open; cursor = asked.cursor })));
     spec = asked.spec;
     zone = asked.zone;

@@ -37,7 +37,7 @@ by_fields : (spec : Job) (zone : TimeZone) → IsJobIn busy 0 0 spec zone → (f
 by_fields spec zone is_in = subst IsCrontab is_in.is_job (_, refl)
 
 -- a minute later the launch is no longer on time
-void_kind : IsCallKind busy 0 (minute 0) (minute 1) Void
+void_kind : IsCallKind busy 0 0 (minute 0) (minute 1) Void
 void_kind spec zone is_in =
     subst (λ kind. (Void ≡ Launch) ↔ IsOnTime kind zone 0 (minute 0) (minute 1)) (sym (by_fields spec zone is_in).1)
     ((λ wrong. absurd cc), (λ on_time. absurd (omega (arith, ints, on_time))))
@@ -47,6 +47,7 @@ void_asked =
     let asked = (call_asked 0).0.may in (
       record {
         may = record {
+          known = lit< tt;
           row = opened 0;
           is_row = refl;
           since = minute 0;

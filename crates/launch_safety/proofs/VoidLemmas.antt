@@ -1,5 +1,5 @@
 -- A launch that was given up, and its log.
-use Rattle.std.proofs.Common.{◌≡◌, ℕ, ◌<◌, inl, inr, List, [], ◌∷◌, length, None, Some, ℤ, ◌≤ℤ◌, refl, ap, ◌∙◌, arith}
+use Rattle.std.proofs.Common.{◌≡◌, ℕ, ◌<◌, inl, inr, List, [], ◌∷◌, length, None, Some, ℤ, ◌≤ℤ◌, refl, sym, ap, ◌∙◌, subst, arith}
 use Rattle.std.specs.Prelude.{All, slice_get}
 use Rattle.std.proofs.lemmas.List.Elements.{All-cons, All-nil}
 use Rattle.std.proofs.lemmas.List.FromFn.{get_or-map-range_with_len, length-map-range_with_len}
@@ -17,12 +17,12 @@ use Rattle.cluster_sched.specs.Held.{AreNamedOnce}
 use Rattle.cluster_sched.specs.declared.row.SchedRow.{SchedRow}
 use Rattle.launch_machine.specs.Answers.{IsCallKind}
 use Rattle.paxos_base.specs.Rows.{fresh_row, row_count}
-use Rattle.launch_machine.specs.Clerk.{MayStart, TakesStart, first_rows, table_size}
-use Rattle.launch_machine.proofs.ExistLemmas.{starts_of_exist}
-use Rattle.launch_machine.proofs.StartLemmas.{starts_front, starts_rise}
+use Rattle.launch_machine.specs.Clerk.{MayStart, TakesStart, first_force, first_rows, table_size}
+use Rattle.launch_machine.specs.declared.force.InForce.{InForce}
+use Rattle.launch_machine.proofs.MachineLemmas.{first_in_force}
 use Rattle.launch_safety.specs.Fits.{Fits, HasEnd, IsBacked, IsHeld}
 use Rattle.launch_safety.proofs.EffectLemmas.{IsEffective-cases, nothing_effective}
-use Rattle.launch_safety.proofs.PeriodLemmas.{started_apart}
+use Rattle.launch_safety.proofs.OrderLemmas.{fits_whole}
 
 -- the row of a void
 abbrev pub void_row : ℕ → ℤ → ℤ → ℕ → SchedRow
@@ -58,19 +58,33 @@ void_ended table job at started called by j t kind known =
     ]
 
 module _ (table : Table) (job : ℕ) (at started called : ℤ) (by : ℕ) (spec : Job) (zone : TimeZone) (sound : IsSound table)
-    (may : MayStart table job (fresh_row job) at started) (is_in : IsJobIn table 0 job spec zone) (called_then : HasCome spec.kind zone at called)
-    (is_void : IsCallKind table job at called Void) where
+    (may : MayStart table first_force job (fresh_row job) at started) (is_in : IsJobIn table 0 job spec zone) (called_then : HasCome spec.kind zone at called)
+    (is_void : IsCallKind table 0 job at called Void) where
+  known : job < length table.jobs
+  known = slice_get_within table.jobs job spec is_in.is_job
+
   takes : TakesStart table (first_rows table) job at started
   takes = record {
+    known = known;
     row = fresh_row job;
-    is_row = fresh_in table job (slice_get_within table.jobs job spec is_in.is_job);
+    is_row = fresh_in table job known;
     idle = refl;
-    may = may;
+    may = subst (λ (force : InForce). MayStart table force job (fresh_row job) at started) (sym (first_in_force table)) may;
   }
 
   backed : IsBacked table (void_log job at started) (void_row job at called by)
   backed = record {
-    start = (started, record { before = []; after = End job at Void ∷ []; parts = refl; takes = (first_rows table, refl, takes) });
+    version = 0;
+    start = record {
+      now = started;
+      before = [];
+      after = End job at Void ∷ [];
+      parts = refl;
+      rows = first_rows table;
+      clerk = refl;
+      takes = takes;
+      in_force = ap (λ (force : InForce). force.version) (first_in_force table);
+    };
     spec = spec;
     zone = zone;
     is_in = is_in;
@@ -85,30 +99,17 @@ module _ (table : Table) (job : ℕ) (at started called : ℤ) (by : ℕ) (spec 
   once i j d less within = absurd (omega arith)
 
   started_void_fits : Fits table (void_log job at started) (void_row job at called by ∷ [])
-  started_void_fits = record {
-    once = once;
-    backed = all_backed;
-    ended = λ j t kind known. void_ended table job at started called by j t kind known;
-    in_order = λ j.
-        let starts = starts_of_exist table sound (void_log job at started) j in
-        record {
-          instants = starts.0;
-          starts = starts.1;
-          rising = starts_rise table (void_log job at started) j starts.0 starts.1;
-          first = λ other. starts_front table (void_log job at started) j starts.0 other starts.1;
-        };
-    apart = started_apart table (void_log job at started) (void_row job at called by ∷ []) once all_backed
-        (λ j t kind known. void_ended table job at started called by j t kind known);
-  }
+  started_void_fits = fits_whole table (void_log job at started) (void_row job at called by ∷ []) sound once all_backed
+      (λ j t kind known. void_ended table job at started called by j t kind known)
 
 pub void_fits : (table : Table) (job : ℕ) (at started called : ℤ) (by : ℕ) (spec : Job) (zone : TimeZone) → IsSound table → IsNextDue table 0 job None at
-    → at ≤ℤ started → IsJobIn table 0 job spec zone → HasCome spec.kind zone at called → IsCallKind table job at called Void
+    → at ≤ℤ started → IsJobIn table 0 job spec zone → HasCome spec.kind zone at called → IsCallKind table 0 job at called Void
     → Fits table (void_log job at started) (void_row job at called by ∷ [])
 void_fits table job at started called by spec zone sound next come is_in called_then is_void =
     started_void_fits table job at started called by spec zone sound (inl (next, come)) is_in called_then is_void
 
 pub void_of_date_fits : (table : Table) (job : ℕ) (date started called : ℤ) (by : ℕ) (spec : Job) (zone : TimeZone) → IsSound table
-    → IsJobOpen table 0 job None None started date → IsJobIn table 0 job spec zone → HasCome spec.kind zone date called → IsCallKind table job date called Void
+    → IsJobOpen table 0 job None None started date → IsJobIn table 0 job spec zone → HasCome spec.kind zone date called → IsCallKind table 0 job date called Void
     → Fits table (void_log job date started) (void_row job date called by ∷ [])
 void_of_date_fits table job date started called by spec zone sound opens is_in called_then is_void =
     started_void_fits table job date started called by spec zone sound (inr opens) is_in called_then is_void

@@ -9,11 +9,18 @@ use Rattle.paxos_base.specs.declared.entry.Entry.{Entry}
 use Rattle.paxos_base.specs.declared.entry.Entry.TheVariants.{Noop, Start, End, Table as TableEntry}
 use Rattle.paxos_base.specs.declared.entry.Kind.{Kind}
 use Rattle.paxos_base.specs.declared.rows.JobRow.{JobRow}
-use Rattle.due_set.specs.Table.{Table}
+use Rattle.jiff.specs.Types.{TimeZone}
+use Rattle.due_set.specs.Calls.{HasCome}
+use Rattle.due_set.specs.Table.{IsJobIn, Job, Table}
 use Rattle.cluster_sched.specs.declared.row.SchedRow.{SchedRow}
-use Rattle.launch_machine.specs.Clerk.{IsClerkOf, first_rows, rows_after}
+use Rattle.launch_machine.specs.Answers.{IsCallKind}
+use Rattle.launch_machine.specs.Clerk.{AppliesAll, IsClerkOf, MayStart, first_force, first_rows, in_force, rows_after}
+use Rattle.launch_machine.specs.Starts.{AdoptionsFrom, AdoptionsOf}
+use Rattle.launch_machine.specs.declared.force.InForce.{InForce}
 use Rattle.launch_machine.proofs.ClerkLemmas.{IsClerkOf-push}
-use Rattle.launch_safety.specs.Fits.{Fits, HasEnd, IsBacked, IsHeld, TakesEffectAfter}
+use Rattle.launch_machine.proofs.VersionRows.{ArePlain, HasFirstVersion, IsPlain, clerk_first_version, first_may, first_version_force}
+use Rattle.launch_safety.specs.Fits.{Fits, HasEnd, HasStart, IsBacked, IsEffective, IsHeld, IsStartedUnder, TakesEffectAfter}
+use Rattle.launch_safety.proofs.EffectLemmas.{was_started}
 use Rattle.launch_safety.proofs.OrderLemmas.{in_order}
 use Rattle.launch_safety.proofs.PeriodLemmas.{started_apart}
 use Rattle.agreement.specs.Agree.{vote_for}
@@ -27,6 +34,15 @@ use Rattle.launch_safety.specs.Fitting.{FitsItsLog, TakesEffectAt, held_in}
 use Rattle.launch_safety.proofs.Books.{book_fitted}
 use Rattle.launch_safety.proofs.Invariant.{SaysHeld, Fitting}
 use Rattle.launch_safety.proofs.LogLemmas.{chosen_there, log_goes_on}
+
+-- the row is backed by the first version
+pub record IsFirstBacked (table : Table) (log : List Entry) (row : SchedRow) : Type 0 where
+  pub start : HasStart table log row.name.job row.name.at
+  pub spec : Job
+  pub zone : TimeZone
+  pub is_in : IsJobIn table 0 row.name.job spec zone
+  pub come : HasCome spec.kind zone row.name.at row.now.0
+  pub kind : IsCallKind table 0 row.name.job row.name.at row.now.0 row.kind
 
 module _ (n : ℕ) (table : Table) (book : List Row) (few : n ≤ 7) (legal : IsLegal n table book) (log : List Entry) (is_log : IsLog n (votes_in book) log) where
   pub fits : Fitting table log (votes_in book) (standing_after n (first_rows table) book)
@@ -56,8 +72,7 @@ module _ (n : ℕ) (table : Table) (book : List Row) (few : n ≤ 7) (legal : Is
       subst (λ front. TakesEffectAfter table front (Start job at now)) (front_is before after (Start job at now) parts) (entry_works before after (Start job at now) parts).1
   entry_takes before after (End job at kind) parts other =
       subst (λ front. TakesEffectAfter table front (End job at kind)) (front_is before after (End job at kind) parts) (entry_works before after (End job at kind) parts).1
-  entry_takes before after (TableEntry version now) parts other =
-      subst (λ front. TakesEffectAfter table front (TableEntry version now)) (front_is before after (TableEntry version now) parts) (entry_works before after (TableEntry version now) parts).1
+  entry_takes before after (TableEntry version now) parts other = absurd (entry_works before after (TableEntry version now) parts)
 
   -- so the entries leave a launch table, whatever the table of jobs
   entry_applies : (before after : List Entry) (entry : Entry) (rows : List JobRow) → log ≡ before ++ entry ∷ after → IsClerkOf table before rows
@@ -65,16 +80,13 @@ module _ (n : ℕ) (table : Table) (book : List Row) (few : n ≤ 7) (legal : Is
   entry_applies before after Noop rows parts clerk = (rows, (IsClerkOf-push table before Noop rows).1 (rows, clerk, inr (λ takes. takes, refl)))
   entry_applies before after (Start job at now) rows parts clerk =
       let (left, left_by, takes) = entry_takes before after (Start job at now) parts (λ is. cc) in
-      let next = rows_after left (Start job at now) in
+      let next = rows_after table left (Start job at now) in
       (next, (IsClerkOf-push table before (Start job at now) next).1 (left, left_by, inl (takes, refl)))
   entry_applies before after (End job at kind) rows parts clerk =
       let (left, left_by, takes) = entry_takes before after (End job at kind) parts (λ is. cc) in
-      let next = rows_after left (End job at kind) in
+      let next = rows_after table left (End job at kind) in
       (next, (IsClerkOf-push table before (End job at kind) next).1 (left, left_by, inl (takes, refl)))
-  entry_applies before after (TableEntry version now) rows parts clerk =
-      let (left, left_by, takes) = entry_takes before after (TableEntry version now) parts (λ is. cc) in
-      let next = rows_after left (TableEntry version now) in
-      (next, (IsClerkOf-push table before (TableEntry version now) next).1 (left, left_by, inl (takes, refl)))
+  entry_applies before after (TableEntry version now) rows parts clerk = absurd (entry_works before after (TableEntry version now) parts)
 
   clerk_along : (before rest : List Entry) (rows : List JobRow) → log ≡ before ++ rest → IsClerkOf table before rows → (last : List JobRow) × IsClerkOf table log last
   clerk_along before [] rows parts clerk = (rows, subst (λ some. IsClerkOf table some rows) (sym (append-nil before) ∙ sym parts) clerk)
@@ -84,6 +96,68 @@ module _ (n : ℕ) (table : Table) (book : List Row) (few : n ≤ 7) (legal : Is
 
   pub log_clerk : (rows : List JobRow) × IsClerkOf table log rows
   log_clerk = clerk_along [] log (first_rows table) refl refl
+
+  -- no version is adopted
+  is_plain : (before after : List Entry) (entry : Entry) → log ≡ before ++ entry ∷ after → IsPlain entry
+  is_plain before after Noop parts = tt
+  is_plain before after (Start job at now) parts = tt
+  is_plain before after (End job at kind) parts = tt
+  is_plain before after (TableEntry version now) parts = entry_works before after (TableEntry version now) parts
+
+  plain_along : (before rest : List Entry) → log ≡ before ++ rest → ArePlain rest
+  plain_along before [] parts = tt
+  plain_along before (entry ∷ rest) parts =
+      (is_plain before rest entry parts, plain_along (before ++ entry ∷ []) rest (parts ∙ sym (append_assoc before (entry ∷ []) rest)))
+
+  pub log_plain : ArePlain log
+  log_plain = plain_along [] log refl
+
+  none_from : (rows last : List JobRow) (entries : List Entry) → ArePlain entries → AppliesAll table rows entries last → AdoptionsFrom table rows entries []
+  none_from rows last [] plain e = refl
+  none_from rows last (entry ∷ entries) plain (middle, step, rest) =
+      (middle, [], step, inr (λ now adopts. subst IsPlain adopts.is plain.0, refl), none_from middle last entries plain.1 rest)
+
+  pub none_adopted : AdoptionsOf table log []
+  none_adopted = none_from (first_rows table) log_clerk.0 log log_plain log_clerk.1
+
+  -- so each start is under the first version
+  before_plain : (before rest : List Entry) → ArePlain (before ++ rest) → ArePlain before
+  before_plain [] rest plain = tt
+  before_plain (entry ∷ before) rest plain = (plain.0, before_plain before rest plain.1)
+
+  pub front_version : (before rest : List Entry) (rows : List JobRow) → log ≡ before ++ rest → IsClerkOf table before rows → HasFirstVersion table rows
+  front_version before rest rows parts clerk = clerk_first_version table before rows (before_plain before rest (subst ArePlain parts log_plain)) clerk
+
+  pub front_force : (before rest : List Entry) (rows : List JobRow) → log ≡ before ++ rest → IsClerkOf table before rows → in_force table rows ≡ first_force
+  front_force before rest rows parts clerk = first_version_force table rows (front_version before rest rows parts clerk)
+
+  pub front_adopts : (before rest : List Entry) (rows : List JobRow) → log ≡ before ++ rest → IsClerkOf table before rows → AdoptionsOf table before []
+  front_adopts before rest rows parts clerk = none_from (first_rows table) rows before (before_plain before rest (subst ArePlain parts log_plain)) clerk
+
+  -- what starts may be started by it
+  pub effective_may : (job : ℕ) (at now : ℤ) (start : IsEffective table log (Start job at now)) → MayStart table first_force job start.takes.2.row at now
+  effective_may job at now start =
+      first_may table start.takes.0 job at now (front_version start.before (Start job at now ∷ start.after) start.takes.0 start.parts start.takes.1) start.takes.2
+
+  pub version_first : (version job : ℕ) (at : ℤ) → IsStartedUnder table log version job at → version ≡ 0
+  version_first version job at start =
+      sym start.in_force
+      ∙ ap (λ (force : InForce). force.version) (front_force start.before (Start job at start.now ∷ start.after) start.rows start.parts start.clerk)
+
+  pub first_start : (version job : ℕ) (at : ℤ) → IsStartedUnder table log version job at → IsStartedUnder table log 0 job at
+  first_start version job at start = subst (λ some. IsStartedUnder table log some job at) (version_first version job at start) start
+
+  pub first_backed : (row : SchedRow) → IsBacked table log row → IsFirstBacked table log row
+  first_backed row backed =
+      let first : backed.version ≡ 0 = version_first backed.version row.name.job row.name.at backed.start in
+      record {
+        start = was_started table log backed.version row.name.job row.name.at backed.start;
+        spec = backed.spec;
+        zone = backed.zone;
+        is_in = subst (λ version. IsJobIn table version row.name.job backed.spec backed.zone) first backed.is_in;
+        come = backed.come;
+        kind = subst (λ version. IsCallKind table version row.name.job row.name.at row.now.0 row.kind) first backed.kind;
+      }
 
   -- an end says what is held
   end_held : (job : ℕ) (at : ℤ) (kind : Kind) → HasEnd table log job at kind → IsHeld (held_in n table book) job at kind
@@ -128,6 +202,12 @@ pub held_backed : (n : ℕ) (table : Table) (book : List Row) (log : List Entry)
     → Contains (held_in n table book) row → IsBacked table log row
 held_backed n table book log row few legal is_log has = (fits n table book few legal log is_log).held row has
 
+-- by the first version
+pub held_first : (n : ℕ) (table : Table) (book : List Row) (log : List Entry) (row : SchedRow) → n ≤ 7 → IsLegal n table book → IsLog n (votes_in book) log
+    → Contains (held_in n table book) row → IsFirstBacked table log row
+held_first n table book log row few legal is_log has =
+    first_backed n table book few legal log is_log row (held_backed n table book log row few legal is_log has)
+
 pub late_backed : (n : ℕ) (table : Table) (book : List Row) (log : List Entry) (row : SchedRow) → n ≤ 7 → IsLegal n table book → IsLog n (votes_in book) log
     → Contains (standing_after n (first_rows table) book).late row → IsBacked table log row
 late_backed n table book log row few legal is_log has = (fits n table book few legal log is_log).late row has
@@ -148,3 +228,15 @@ vote_works n table book log cast few legal is_log has = (fits n table book few l
 pub table_left : (n : ℕ) (table : Table) (book : List Row) (log : List Entry) → n ≤ 7 → IsLegal n table book → IsLog n (votes_in book) log
     → (rows : List JobRow) × IsClerkOf table log rows
 table_left n table book log few legal is_log = log_clerk n table book few legal log is_log
+
+-- no version is adopted, so the first is in force
+pub no_adoptions : (n : ℕ) (table : Table) (book : List Row) (log : List Entry) → n ≤ 7 → IsLegal n table book → IsLog n (votes_in book) log → AdoptionsOf table log []
+no_adoptions n table book log few legal is_log = none_adopted n table book few legal log is_log
+
+pub first_in_log : (n : ℕ) (table : Table) (book : List Row) (log : List Entry) (rows : List JobRow) → n ≤ 7 → IsLegal n table book → IsLog n (votes_in book) log
+    → IsClerkOf table log rows → in_force table rows ≡ first_force
+first_in_log n table book log rows few legal is_log clerk = front_force n table book few legal log is_log log [] rows (sym (append-nil log)) clerk
+
+pub first_started : (n : ℕ) (table : Table) (book : List Row) (log : List Entry) (version job : ℕ) (at : ℤ) → n ≤ 7 → IsLegal n table book → IsLog n (votes_in book) log
+    → IsStartedUnder table log version job at → version ≡ 0
+first_started n table book log version job at few legal is_log start = version_first n table book few legal log is_log version job at start

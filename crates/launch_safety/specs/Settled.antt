@@ -3,8 +3,8 @@ use Rattle.std.specs.Prelude.{List, ℤ}
 use Rattle.paxos_base.specs.declared.entry.Entry.{Entry}
 use Rattle.paxos_base.specs.declared.rows.JobRow.{JobRow}
 use Rattle.due_set.specs.Table.{Table}
-use Rattle.launch_machine.specs.Clerk.{IsClerkOf}
-use Rattle.launch_machine.specs.Intent.{NoCall, NoStart}
+use Rattle.launch_machine.specs.Clerk.{IsClerkOf, NoStart}
+use Rattle.launch_machine.specs.Intent.{NoCall}
 
 -- at the instant no launch that is open may be called, and no start would take effect
 pub record IsSettled (table : Table) (log : List Entry) (now : ℤ) : Type 0 where

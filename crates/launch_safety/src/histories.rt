@@ -7,8 +7,9 @@ ghost use Rattle.paxos_base.specs.declared.entry.Kind.TheVariants.{Launch, Void}
 ghost use Rattle.paxos_base.specs.declared.rows.JobRow.{JobRow};
 ghost use Rattle.due_set.specs.Table.{IsSound, Table};
 ghost use Rattle.cluster_sched.specs.declared.row.SchedRow.{SchedRow};
-ghost use Rattle.launch_machine.specs.Clerk.{IsClerkOf, first_rows};
-ghost use Rattle.launch_safety.specs.Fits.{IsBacked, IsHeld, IsPeriodApart, TakesEffectAfter};
+ghost use Rattle.launch_machine.specs.Clerk.{IsClerkOf, first_force, first_rows, in_force};
+ghost use Rattle.launch_machine.specs.Starts.{AdoptionsOf};
+ghost use Rattle.launch_safety.specs.Fits.{IsBacked, IsHeld, IsPeriodApart, IsStartedUnder, TakesEffectAfter};
 ghost use Rattle.agreement.specs.Log.{IsLog};
 ghost use Rattle.agreement.specs.World.{CastVote};
 ghost use Rattle.history.specs.Book.{Row, standing_after, votes_in};
@@ -49,7 +50,8 @@ pub fn each_end_says_what_is_held()
         → IsHeld (held_in members table book) job at kind }
 {}
 
-/// Each entry of the log of a legal book takes effect but the no-ops. So does at its slot the entry of each vote, chosen or not.
+/// Each entry of the log of a legal book takes effect but the no-ops. So does at its slot the entry of each vote, chosen or not,
+/// and none adopts a version.
 pub fn each_entry_takes_effect()
     ensures log { (members : ℕ) (table : Table) (book : List Row) (log before after : List Entry) (entry : Entry) → members ≤ 7
         → IsLegal members table book → IsLog members (votes_in book) log → log ≡ before ++ entry ∷ after → entry ≢ Noop
@@ -70,6 +72,18 @@ pub fn a_launch_ends_once()
 pub fn a_log_leaves_a_table()
     ensures { (members : ℕ) (table : Table) (book : List Row) (log : List Entry) → members ≤ 7 → IsLegal members table book
         → IsLog members (votes_in book) log → (rows : List JobRow) × IsClerkOf table log rows }
+{}
+
+/// No version is adopted in the log of a legal book, since no replica proposes one yet: so the first stays in force, and each
+/// launch is started under it.
+pub fn a_legal_log_adopts_no_version()
+    ensures none { (members : ℕ) (table : Table) (book : List Row) (log : List Entry) → members ≤ 7 → IsLegal members table book
+        → IsLog members (votes_in book) log → AdoptionsOf table log [] }
+    ensures first { (members : ℕ) (table : Table) (book : List Row) (log : List Entry) (rows : List JobRow) → members ≤ 7
+        → IsLegal members table book → IsLog members (votes_in book) log → IsClerkOf table log rows
+        → in_force table rows ≡ first_force }
+    ensures start { (members : ℕ) (table : Table) (book : List Row) (log : List Entry) (version job : ℕ) (at : ℤ) → members ≤ 7
+        → IsLegal members table book → IsLog members (votes_in book) log → IsStartedUnder table log version job at → version ≡ 0 }
 {}
 
 /// The log after some turns of a legal book is a front of its log.
@@ -93,7 +107,7 @@ pub fn a_late_call_may_arrive_behind_a_void()
 pub fn a_job_may_be_launched_on_two_dates()
     ensures some { (table : Table) × (book : List Row) × IsSound table × IsLegal 1 table book × HasTwoDates 1 table book }
     ensures apart { (members : ℕ) (table : Table) (book : List Row) (dates : HasTwoDates members table book) → members ≤ 7
-        → IsLegal members table book → IsPeriodApart table dates.job dates.first dates.second }
+        → IsLegal members table book → IsPeriodApart table 0 dates.job dates.first dates.second }
 {}
 
 /// There is a legal book of two replicas in which a launch is started, called in time and ended. In each legal book a row of the

@@ -1,17 +1,18 @@
 -- What becomes of the counts of a launch table as entries are applied.
-use Rattle.std.proofs.Common.{◌≡◌, ℕ, zero, suc, ◌+◌, ◌<◌, ◌≤◌, max, List, [], ◌∷◌, length, set, inl, inr, arith, get_or}
-use Rattle.std.proofs.lemmas.List.{get_or-set_same}
+use Rattle.std.proofs.Common.{◌≡◌, ℕ, zero, suc, ◌+◌, ◌<◌, ◌≤◌, ltb, max, List, [], ◌∷◌, length, set, ◌∙◌, inl, inr, arith, get_or}
+use Rattle.std.proofs.lemmas.Bool.{cases_Bool, ltb-false, ltb-true}
+use Rattle.std.proofs.lemmas.List.{get_or-set_same, set_past}
 use Rattle.std.proofs.lemmas.List.Elements.{All-cons, All-get_or, All-head, All-nil, All-set, All-tail, All-weaker}
 use Rattle.std.proofs.lemmas.Option.{slice_get_within}
 use Rattle.due_set.specs.Table.{Table}
 use Rattle.paxos_base.specs.Rows.{fresh_row}
-use Rattle.launch_machine.specs.Clerk.{Applies, closed_row, opened_row}
+use Rattle.launch_machine.specs.Clerk.{Applies, adopted_row, closed_row, opened_row}
 use Rattle.paxos_base.specs.declared.entry.Entry.{Entry}
 use Rattle.paxos_base.specs.declared.entry.Entry.TheVariants.{Noop, Start, End, Table as TableEntry}
 use Rattle.paxos_base.specs.declared.entry.Kind.{Kind}
 use Rattle.paxos_base.specs.declared.entry.Kind.TheVariants.{Launch, Void}
 use Rattle.paxos_base.specs.declared.rows.JobRow.{JobRow}
-use Rattle.replica_core.specs.Counts.{count_ended, count_of, highest_count}
+use Rattle.replica_core.specs.Counts.{count_of, count_raised, highest_count}
 use Rattle.launch_machine.specs.Machine.{CountsBelow}
 
 -- each count of the row is below this
@@ -32,7 +33,17 @@ counts_rise n rows counts = All-weaker (CountBelow n) (CountBelow (n + 1)) (one_
 pub counts_applied : (table : Table) (old : List JobRow) (entry : Entry) (new : List JobRow) (n : ℕ) → Applies table old entry new → CountsBelow n old → CountsBelow (n + 1) new
 counts_applied table old entry new n (inr (not, e)) counts = rw e (counts_rise n old counts)
 counts_applied table old Noop new n (inl (takes, e)) counts = absurd takes
-counts_applied table old (TableEntry version now) new n (inl (takes, e)) counts = absurd takes
+counts_applied table old (TableEntry version now) new n (inl (takes, e)) counts =
+    let own : ℕ = length table.jobs in
+    let row : JobRow = get_or old own (fresh_row own) in
+    elim (cases_Bool (ltb own (length old))) [
+      | inl here ↦
+          let low : CountBelow n row = All-get_or (CountBelow n) old own (fresh_row own) (ltb-true own (length old) here) counts in
+          rw e (All-set (CountBelow (n + 1)) old own (adopted_row version now row) (omega (arith, low.0, takes.next), omega (arith, low.1)) (counts_rise n old counts))
+      | inr past ↦
+          let same = e ∙ set_past old own (adopted_row version now row) (ltb-false own (length old) past) in
+          rw same (counts_rise n old counts)
+    ]
 counts_applied table old (Start job at now) new n (inl (takes, e)) counts =
     let within = slice_get_within old job takes.row takes.is_row in
     let here : CountBelow n (get_or old job (fresh_row job)) = All-get_or (CountBelow n) old job (fresh_row job) within counts in
@@ -76,13 +87,29 @@ closed_more : (at : _) (kind : Kind) (row : JobRow) → count_of row ≤ count_o
 closed_more at Launch row = omega arith
 closed_more at Void row = omega arith
 
--- an entry raises no count but that of the job that it ends
+-- an entry raises no count but that of the job that it ends, or of the version that it adopts
 pub highest-applied : (table : Table) (old : List JobRow) (entry : Entry) (new : List JobRow) → Applies table old entry new
-    → highest_count new ≡ max (highest_count old) (count_ended new entry)
+    → highest_count new ≡ max (highest_count old) (count_raised table new entry)
 highest-applied table old Noop new (inl (takes, e)) = absurd takes
-highest-applied table old (TableEntry version now) new (inl (takes, e)) = absurd takes
 highest-applied table old Noop new (inr (not, e)) = rw e (omega arith)
-highest-applied table old (TableEntry version now) new (inr (not, e)) = rw e (omega arith)
+highest-applied table old (TableEntry version now) new (inr (not, e)) =
+    let own : ℕ = length table.jobs in
+    let before = reached old own (fresh_row own) (omega arith) in
+    rw e (omega (arith, before))
+highest-applied table old (TableEntry version now) new (inl (takes, e)) =
+    let own : ℕ = length table.jobs in
+    let row : JobRow = get_or old own (fresh_row own) in
+    let adopted : JobRow = adopted_row version now row in
+    elim (cases_Bool (ltb own (length old))) [
+      | inl here ↦
+          let within = ltb-true own (length old) here in
+          let same : get_or (set old own adopted) own (fresh_row own) ≡ adopted = get_or-set_same old own adopted (fresh_row own) within in
+          rw e (rw same (highest-set old own adopted (fresh_row own) within (omega (arith, takes.next))))
+      | inr past ↦
+          let before = reached old own (fresh_row own) (omega arith) in
+          let same = e ∙ set_past old own adopted (ltb-false own (length old) past) in
+          rw same (omega (arith, before))
+    ]
 highest-applied table old (Start job at now) new (inr (not, e)) = rw e (omega arith)
 highest-applied table old (Start job at now) new (inl (takes, e)) =
     let within = slice_get_within old job takes.row takes.is_row in

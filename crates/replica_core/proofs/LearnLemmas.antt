@@ -10,19 +10,19 @@ use Rattle.paxos_base.specs.declared.entry.Entry.{Entry}
 use Rattle.step_spec.specs.declared.out.LearntRow.{LearntRow}
 use Rattle.replica_draft.specs.Draft.{entries_in}
 use Rattle.replica_core.specs.Commit.{LearnsAll}
-use Rattle.replica_core.specs.Counts.{count_ended, highest_count}
+use Rattle.replica_core.specs.Counts.{count_raised, highest_count}
 use Rattle.replica_core.proofs.CountLemmas.{counts_applied, highest-applied}
 
--- The first of some entries are learned and applied, and there is room for the others. The count is the highest of a job that one of
--- them has ended.
-pub record Learning (table : Table) (first learner : LearnerState) (start machine : Launches) (entries : List Entry) (n ended : ℕ) : Type 0 where
+-- The first of some entries are learned and applied, and there is room for the others. The count is the highest of those that one of
+-- them may have raised.
+pub record Learning (table : Table) (first learner : LearnerState) (start machine : Launches) (entries : List Entry) (n raised : ℕ) : Type 0 where
   pub base : learner.base ≡ first.base
   pub learned : learner.entries ≡ first.entries ++ take n entries
   pub room : length entries ≤ learner.spare + n
   pub applied : AppliesAll table start.rows (take n entries) machine.rows
   pub stands : StandsFor table machine
   pub counts : CountsBelow (2 ^ 31 + n) machine.rows
-  pub highest : highest_count machine.rows ≡ max (highest_count start.rows) ended
+  pub highest : highest_count machine.rows ≡ max (highest_count start.rows) raised
 
 -- at first nothing is learned
 pub Learning-none : (table : Table) (first : LearnerState) (start : Launches) (entries : List Entry) → length entries ≤ first.spare → StandsFor table start → CountsBelow (2 ^ 31) start.rows
@@ -31,11 +31,11 @@ Learning-none table first start entries room stands counts =
     record { base = refl; learned = sym (append-nil first.entries); room = omega (arith, room); applied = refl; stands = stands; counts = counts; highest = omega arith }
 
 -- one entry more
-pub Learning-next : (table : Table) (first learner later : LearnerState) (start machine next : Launches) (entries : List Entry) (n ended raised : ℕ) (none entry : Entry) → n < length entries
-    → get_or entries n none ≡ entry → Learning table first learner start machine entries n ended → HasLearnedOne learner later entry → learner.spare ≤ later.spare + 1
+pub Learning-next : (table : Table) (first learner later : LearnerState) (start machine next : Launches) (entries : List Entry) (n raised higher : ℕ) (none entry : Entry) → n < length entries
+    → get_or entries n none ≡ entry → Learning table first learner start machine entries n raised → HasLearnedOne learner later entry → learner.spare ≤ later.spare + 1
     → Applies table machine.rows entry next.rows → StandsFor table next
-    → raised ≡ max ended (count_ended next.rows entry) → Learning table first later start next entries (n + 1) raised
-Learning-next table first learner later start machine next entries n ended raised none entry within is known learned spare applies stands raised_is =
+    → higher ≡ max raised (count_raised table next.rows entry) → Learning table first later start next entries (n + 1) higher
+Learning-next table first learner later start machine next entries n raised higher none entry within is known learned spare applies stands higher_is =
     let more : take (n + 1) entries ≡ take n entries ++ entry ∷ [] = take_more entries n none within ∙ ap (λ e. take n entries ++ e ∷ []) is in
     let same : 2 ^ 31 + n + 1 ≡ 2 ^ 31 + (n + 1) = omega arith in
     let here = highest-applied table machine.rows entry next.rows applies in
@@ -48,13 +48,13 @@ Learning-next table first learner later start machine next entries n ended raise
       applied = rw more (AppliesAll-push table start.rows (take n entries) entry machine.rows next.rows known.applied applies);
       stands = stands;
       counts = subst (λ (limit : ℕ). CountsBelow limit next.rows) same (counts_applied table machine.rows entry next.rows (2 ^ 31 + n) applies known.counts);
-      highest = omega (arith, here, before, raised_is);
+      highest = omega (arith, here, before, higher_is);
     }
 
 -- at the end all are learned
-pub Learning-all : (table : Table) (first learner : LearnerState) (start machine : Launches) (entries : List Entry) (n ended : ℕ) → length entries ≤ n → Learning table first learner start machine entries n ended
-    → LearnsAll table first learner start machine entries ended
-Learning-all table first learner start machine entries n ended past known =
+pub Learning-all : (table : Table) (first learner : LearnerState) (start machine : Launches) (entries : List Entry) (n raised : ℕ) → length entries ≤ n → Learning table first learner start machine entries n raised
+    → LearnsAll table first learner start machine entries raised
+Learning-all table first learner start machine entries n raised past known =
     let all : take n entries ≡ entries = take_all n entries past in
     record { base = known.base; learned = known.learned ∙ ap (λ some. first.entries ++ some) all; applied = rw all at known.applied; stands = known.stands; highest = known.highest }
 

@@ -22,10 +22,10 @@ use Rattle.replica_draft.specs.Draft.{drafted, said_in, said_of}
 use Rattle.replica_core.specs.Replica.{Makes, own_identity, idle_desk, fixed_of, replica_of_core, state_of}
 use Rattle.replica_core.specs.Step.{HearsLetter, IsEventOf, IsOfTable, MakesStep}
 use Rattle.replica_core.specs.declared.input.Input.{Input}
-use Rattle.replica_core.proofs.TableLemmas.{all-rows-heard, all-rows-sent, copyable, stand-before}
+use Rattle.replica_core.proofs.TableLemmas.{all-rows-heard, all-rows-sent, copyable, numbered-before}
 use Rattle.replica_draft.specs.Letters.{BringsCopyable, IsCopyable}
 use Rattle.replica_draft.proofs.LetterLemmas.{CanBeSent, step-letters}
-use Rattle.paxos_base.specs.Rows.{OpenHaveCursors}
+use Rattle.paxos_base.specs.Rows.{OpenHaveCursors, row_count}
 use Rattle.replica_draft.specs.declared.draft.Draft.{Draft}
 use Rattle.replica_core.specs.declared.parts.Core.{Core}
 use Rattle.replica_draft.proofs.DraftLemmas.{done-nil}
@@ -99,12 +99,12 @@ pub made-letters : (table : Table) (given : Input) (core : Core) (draft : Draft)
     → (event : Event) → Makes core (step (own_identity core) event (state_of core)) draft → BringsCopyable event
     → CanBeSent (own_identity core) (step (own_identity core) event (state_of core)) (map said_in draft.sends.items)
 made-letters table given core draft of_table made here there event makes brings =
-    let stand = stand-before table core.rows core.learner.entries core.machine.rows of_table.rows of_table.stands.rows in
-    step-letters (own_identity core) event (state_of core) (map said_in draft.sends.items) (copyable core.rows (table_size table) stand here) brings (said-made core event draft makes)
+    let numbered = numbered-before table core.rows core.learner.entries core.machine.rows of_table.rows of_table.stands.rows.numbered in
+    step-letters (own_identity core) event (state_of core) (map said_in draft.sends.items) (copyable core.rows (row_count (table_size table)) numbered here) brings (said-made core event draft makes)
 
 pub made-copyable : (table : Table) (given : Input) (core : Core) (draft : Draft) → IsOfTable table (replica_of_core core) → (made : MakesStep table given core draft) → OpenHaveCursors core.machine.rows → BringsCopyable made.event
 made-copyable table given core draft of_table made there =
-    event-copyable table core given made.event (copyable core.machine.rows (table_size table) of_table.stands.rows there) made.event_is
+    event-copyable table core given made.event (copyable core.machine.rows (row_count (table_size table)) of_table.stands.rows.numbered there) made.event_is
 
 -- ---- The fault of a letter
 

@@ -1,21 +1,21 @@
--- The rows at a base are those of a table, as the launch table is; and rows of a table can be sent.
-use Rattle.std.proofs.Common.{length, ◌≡◌, ℕ, ◌+◌, eqb, true, arith, Some, List, [], ◌∷◌, get_or, ℤ, refl, sym, ap, subst, ◌∙◌, inl, inr}
-use Rattle.std.specs.Prelude.{not, is_some, slice_get, slice_set}
+-- The rows at a base are numbered as those of the launch table are; and rows that are numbered can be sent.
+use Rattle.std.proofs.Common.{length, ◌≡◌, ℕ, arith, Some, List, [], ◌∷◌, get_or, ℤ, refl, sym, ap, subst, ◌∙◌, inl, inr}
+use Rattle.std.specs.Prelude.{slice_get, slice_set}
 use Rattle.std.specs.List.{AllByRecursion, Contains}
 use Rattle.std.proofs.Math.ListN.{length-set}
-use Rattle.std.proofs.lemmas.Bool.{and_parts, eqb-true, false≢true, cases_eq}
+use Rattle.std.proofs.lemmas.Bool.{false≢true, cases_eq}
 use Rattle.std.proofs.lemmas.List.Elements.{All-set}
 use Rattle.std.proofs.lemmas.Option.{get_or_from_slice_get, slice_get-get_or, slice_get_within}
 use Rattle.paxos_base.specs.declared.rows.TableSize.{TableSize}
-use Rattle.paxos_base.specs.Rows.{AreNumbered, EndsWithTable, OpenHasCursor, OpenHaveCursors, RowsStand, fresh_row, is_table_row, row_count}
+use Rattle.paxos_base.specs.Rows.{AreNumbered, OpenHasCursor, OpenHaveCursors, fresh_row, row_count}
 use Rattle.paxos_base.specs.declared.entry.Entry.{Entry}
 use Rattle.paxos_base.specs.declared.entry.Entry.TheVariants.{Noop, Start, End, Table as TableEntry}
 use Rattle.paxos_base.specs.declared.entry.Kind.{Kind}
 use Rattle.paxos_base.specs.declared.entry.Kind.TheVariants.{Launch, Void}
 use Rattle.paxos_base.specs.declared.rows.JobRow.{JobRow}
 use Rattle.due_set.specs.Table.{Table}
-use Rattle.launch_machine.specs.Clerk.{Applies, AppliesAll, closed_row, opened_row, table_size}
-use Rattle.launch_machine.proofs.MachineLemmas.{set_here, set_there, start_within, closed_job as closed-job}
+use Rattle.launch_machine.specs.Clerk.{Applies, AppliesAll, adopted_row, closed_row, opened_row, table_size}
+use Rattle.launch_machine.proofs.MachineLemmas.{set_here, set_there, closed_job as closed-job}
 use Rattle.step_spec.specs.Letters.{IsHeardAs}
 use Rattle.step_spec.specs.Message.{Message, Prepare, Promise, Accept, Accepted, Nack, Known, AskFrom, Snap, Lead, Mention}
 use Rattle.step_spec.proofs.RowLemmas.{copied_stand, heard_stand}
@@ -40,57 +40,36 @@ stand-set rows count job row new is same stand = record {
   ];
 }
 
--- a row that was closed isn't the table's own
-closed-other : (last_version : ℕ) (at : ℤ) (kind : Kind) (row : JobRow) → is_table_row last_version (closed_row at kind row) ≡ true → ⊥
-closed-other last_version at Launch row is = false≢true is
-closed-other last_version at Void row is =
-    let counts = (and_parts (not (is_some row.last)) _ is).1 in
-    let none : row.voided + 1 ≡ 0 = eqb-true (row.voided + 1) 0 (and_parts (eqb (row.voided + 1) 0) _ counts).0 in
-    omega (arith, none)
-
-ends-set : (rows : List JobRow) (size : TableSize) (job : ℕ) (row new : JobRow) → slice_get rows job ≡ Some row
-    → (job ≡ size.jobs → is_table_row size.last_version new ≡ true → ⊥) → EndsWithTable (slice_set rows job new) size → EndsWithTable rows size
-ends-set rows size job row new is other ends = elim (cases_eq job size.jobs) [
-  | inl same ↦ λ old there.
-      let within = slice_get_within rows job row is in
-      let there_now : slice_get (slice_set rows job new) job ≡ Some (get_or (slice_set rows job new) job new) = slice_get-get_or (slice_set rows job new) job new (rw (length-set rows job new) within) in
-      let new_is : new ≡ get_or (slice_set rows job new) job new = set_here rows job (get_or (slice_set rows job new) job new) new there_now in
-      let at_end : slice_get (slice_set rows job new) size.jobs ≡ Some new = subst (λ (k : ℕ). slice_get (slice_set rows job new) k ≡ Some new) same (there_now ∙ ap Some (sym new_is)) in
-      absurd (other same (ends new at_end))
-  | inr apart ↦ λ old there. ends old (set_there rows job size.jobs new (λ same. apart (sym same)) ∙ there)
-]
-
-stand-one : (table : Table) (old new : List JobRow) (entry : Entry) → Applies table old entry new → RowsStand new (table_size table) → RowsStand old (table_size table)
-stand-one table old new entry (inr (not, same)) stand = subst (λ rows. RowsStand rows (table_size table)) same stand
-stand-one table old new Noop (inl (takes, is)) stand = absurd takes
-stand-one table old new (TableEntry version now) (inl (takes, is)) stand = absurd takes
-stand-one table old new (Start job at now) (inl (takes, is)) stand =
+-- rows are numbered where they are after an entry
+numbered-one : (table : Table) (old new : List JobRow) (entry : Entry) → Applies table old entry new → AreNumbered new (row_count (table_size table))
+    → AreNumbered old (row_count (table_size table))
+numbered-one table old new entry (inr (not, same)) numbered = subst (λ rows. AreNumbered rows (row_count (table_size table))) same numbered
+numbered-one table old new Noop (inl (takes, is)) numbered = absurd takes
+numbered-one table old new (TableEntry version now) (inl (takes, is)) numbered =
+    let own : ℕ = length table.jobs in
+    let row : JobRow = get_or old own (fresh_row own) in
+    let after = subst (λ rows. AreNumbered rows (row_count (table_size table))) is numbered in
+    let there : slice_get old own ≡ Some row = slice_get-get_or old own (fresh_row own) (omega (arith, after.count, length-set old own (adopted_row version now row))) in
+    stand-set old (row_count (table_size table)) own row (adopted_row version now row) there refl after
+numbered-one table old new (Start job at now) (inl (takes, is)) numbered =
     let row = get_or_from_slice_get old job takes.row (fresh_row job) takes.is_row in
-    let after = subst (λ rows. RowsStand rows (table_size table)) is stand in
     let opened : JobRow = opened_row at now (get_or old job (fresh_row job)) in
-    let below = start_within table job takes.row at now takes.may in
-    record {
-      numbered = stand-set old (row_count (table_size table)) job takes.row opened takes.is_row (ap (λ (r : JobRow). r.job) row) after.numbered;
-      ends = ends-set old (table_size table) job takes.row opened takes.is_row (λ same ends. omega (arith, below, same)) after.ends;
-    }
-stand-one table old new (End job at kind) (inl (takes, is)) stand =
+    stand-set old (row_count (table_size table)) job takes.row opened takes.is_row (ap (λ (r : JobRow). r.job) row) (subst (λ rows. AreNumbered rows (row_count (table_size table))) is numbered)
+numbered-one table old new (End job at kind) (inl (takes, is)) numbered =
     let row = get_or_from_slice_get old job takes.row (fresh_row job) takes.is_row in
-    let after = subst (λ rows. RowsStand rows (table_size table)) is stand in
     let here : JobRow = get_or old job (fresh_row job) in
-    record {
-      numbered = stand-set old (row_count (table_size table)) job takes.row (closed_row at kind here) takes.is_row (closed-job at kind here ∙ ap (λ (r : JobRow). r.job) row) after.numbered;
-      ends = ends-set old (table_size table) job takes.row (closed_row at kind here) takes.is_row (λ same. closed-other (length table.later) at kind here) after.ends;
-    }
+    stand-set old (row_count (table_size table)) job takes.row (closed_row at kind here) takes.is_row (closed-job at kind here ∙ ap (λ (r : JobRow). r.job) row)
+    (subst (λ rows. AreNumbered rows (row_count (table_size table))) is numbered)
 
--- where the launch table is of the table of jobs, the rows at the base are
-pub stand-before : (table : Table) (first : List JobRow) (entries : List Entry) (last : List JobRow) → AppliesAll table first entries last
-    → RowsStand last (table_size table) → RowsStand first (table_size table)
-stand-before table first [] last same stand = subst (λ rows. RowsStand rows (table_size table)) same stand
-stand-before table first (entry ∷ entries) last (middle, applies, rest) stand =
-    stand-one table first middle entry applies (stand-before table middle entries last rest stand)
+-- where the launch table has a row for each job and the table's own, the rows at the base do
+pub numbered-before : (table : Table) (first : List JobRow) (entries : List Entry) (last : List JobRow) → AppliesAll table first entries last
+    → AreNumbered last (row_count (table_size table)) → AreNumbered first (row_count (table_size table))
+numbered-before table first [] last same numbered = subst (λ rows. AreNumbered rows (row_count (table_size table))) same numbered
+numbered-before table first (entry ∷ entries) last (middle, applies, rest) numbered =
+    numbered-one table first middle entry applies (numbered-before table middle entries last rest numbered)
 
-pub copyable : (rows : List JobRow) (size : TableSize) → RowsStand rows size → OpenHaveCursors rows → IsCopyable rows
-copyable rows size stand cursors = record { in_order = stand.numbered.in_order; cursors = cursors }
+pub copyable : (rows : List JobRow) (count : ℕ) → AreNumbered rows count → OpenHaveCursors rows → IsCopyable rows
+copyable rows count numbered cursors = record { in_order = numbered.in_order; cursors = cursors }
 
 -- ---- what is heard
 
@@ -118,7 +97,7 @@ all-rows-heard members size bytes from messages heard =
     all-by (BringsRows size) messages (λ message has. rows-heard members size bytes from messages message heard has)
 
 rows-sent : (size : TableSize) (message : Message) → BringsRows size message → IsCopyableIn message
-rows-sent size (Snap slot rows) brings = copyable rows size brings.stand brings.cursors
+rows-sent size (Snap slot rows) brings = copyable rows (row_count size) brings.stand.numbered brings.cursors
 rows-sent size (Prepare ballot slot) brings = tt
 rows-sent size (Promise ballot slot votes) brings = tt
 rows-sent size (Accept vote) brings = tt
@@ -142,7 +121,9 @@ closed-cursor at Void row some = absurd (false≢true some)
 cursors-one : (table : Table) (old new : List JobRow) (entry : Entry) → Applies table old entry new → OpenHaveCursors old → OpenHaveCursors new
 cursors-one table old new entry (inr (not, same)) cursors = rw same cursors
 cursors-one table old new Noop (inl (takes, is)) cursors = absurd takes
-cursors-one table old new (TableEntry version now) (inl (takes, is)) cursors = absurd takes
+cursors-one table old new (TableEntry version now) (inl (takes, is)) cursors =
+    let own : ℕ = length table.jobs in
+    rw is (All-set OpenHasCursor old own (adopted_row version now (get_or old own (fresh_row own))) (λ some. refl) cursors)
 cursors-one table old new (Start job at now) (inl (takes, is)) cursors =
     rw is (All-set OpenHasCursor old job (opened_row at now (get_or old job (fresh_row job))) (λ some. refl) cursors)
 cursors-one table old new (End job at kind) (inl (takes, is)) cursors =

@@ -44,13 +44,13 @@ entries_with (Some (change.Promised ballot)) entries = entries
 entries_with (Some (change.Voted vote)) entries = entries
 entries_with None entries = entries
 
--- entries were learned and applied, and this is the highest count of a job that one of them has ended
-pub record LearnsAll (table : Table) (old new : LearnerState) (start end : Launches) (entries : List Entry) (ended : ℕ) : Type 0 where
+-- entries were learned and applied, and this is the highest of the counts that one of them may have raised
+pub record LearnsAll (table : Table) (old new : LearnerState) (start end : Launches) (entries : List Entry) (raised : ℕ) : Type 0 where
   pub base : new.base ≡ old.base
   pub learned : new.entries ≡ old.entries ++ entries
   pub applied : AppliesAll table start.rows entries end.rows
   pub stands : StandsFor table end
-  pub highest : highest_count end.rows ≡ max (highest_count start.rows) ended
+  pub highest : highest_count end.rows ≡ max (highest_count start.rows) raised
 
 -- nothing has changed but the rows at the base, what was learned, and the launch table by that: behind a new base they are those there
 pub record HasLearnedAll (table : Table) (made : Option Change) (rows : List LearntRow) (old new : Core) : Type 0 where

@@ -16,7 +16,7 @@ ghost use Rattle.term_core.specs.Term.{best_votes};
 ghost use Rattle.replica_draft.specs.Draft.{delta_of, drafted, entries_in, with_best};
 ghost use Rattle.replica_draft.specs.declared.change.Change.TheVariants as change;
 ghost use Rattle.replica_core.specs.Commit.{HasLearnedAll, HasStored, LearnsAll, entries_with, launches_of};
-ghost use Rattle.replica_core.specs.Counts.{count_ended, count_of, highest_count};
+ghost use Rattle.replica_core.specs.Counts.{count_of, count_raised, highest_count};
 ghost use Rattle.replica_core.specs.Replica.{HasRoomFor, BringsTable, IsAlikeCore, IsDraftSteady, IsSupplied, base_of, own_identity, fixed_of, since_of, state_of};
 
 use crate::out::{Effects, LearntList, StepOut};
@@ -172,8 +172,8 @@ impl Core {
             self.take_table(table, Box::into_inner(rebased.table));
             return;
         }
-        let ended = learn_rows(&mut self.learner, &mut self.machine, table, rows);
-        self.high_count = self.high_count.max(ended);
+        let raised = learn_rows(&mut self.learner, &mut self.machine, table, rows);
+        self.high_count = self.high_count.max(raised);
     }
 
     // Takes a launch table in the place of the entries below its slot, and learns what was learned since.
@@ -188,8 +188,8 @@ impl Core {
         self.take_machine(rebased.machine);
         self.learner.rebase(rebased.slot);
         let since = &rebased.since.items;
-        let ended = learn_entries(&mut self.learner, &mut self.machine, table, since);
-        self.high_count = self.high_count.max(ended);
+        let raised = learn_entries(&mut self.learner, &mut self.machine, table, since);
+        self.high_count = self.high_count.max(raised);
     }
 
     // Takes the machine of the rows at the base, where there is one.
@@ -216,8 +216,8 @@ fn round_after(delta: &Delta, tried: u64) -> u64
     }
 }
 
-// Learns the entries of rows, one after another, and applies each to the launch table. Answers the highest count of a job that one
-// of them has ended.
+// Learns the entries of rows, one after another, and applies each to the launch table. Answers the highest of the counts that one
+// of them may have raised.
 fn learn_rows(
     learner: &mut Learner,
     machine: &mut Machine,
@@ -231,11 +231,11 @@ fn learn_rows(
     requires counts { CountsBelow (2 ^ 31) machine.old.rows }
     ensures { LearnsAll table.now learner.old learner.new machine.old machine.new (entries_in rows.now) result }
 {
-    let mut ended: u32 = 0;
+    let mut raised: u32 = 0;
     for row in rows {
-        ended = ended.max(learn_next(learner, machine, table, row.entry));
+        raised = raised.max(learn_next(learner, machine, table, row.entry));
     }
-    ended
+    raised
 }
 
 // The same of entries.
@@ -252,14 +252,14 @@ fn learn_entries(
     requires counts { CountsBelow (2 ^ 31) machine.old.rows }
     ensures { LearnsAll table.now learner.old learner.new machine.old machine.new entries.now result }
 {
-    let mut ended: u32 = 0;
+    let mut raised: u32 = 0;
     for entry in entries {
-        ended = ended.max(learn_next(learner, machine, table, *entry));
+        raised = raised.max(learn_next(learner, machine, table, *entry));
     }
-    ended
+    raised
 }
 
-// Learns the next entry, for which there is room, and applies it. Answers the count of the job that it ends, or 0.
+// Learns the next entry, for which there is room, and applies it. Answers the count that it may raise, or 0.
 fn learn_next(learner: &mut Learner, machine: &mut Machine, table: &JobTable, entry: Entry) -> u32
     requires room { 1 ≤ learner.old.spare }
     requires prefix { learned.learned_prefix learner.old < 2 ^ 63 }
@@ -269,7 +269,7 @@ fn learn_next(learner: &mut Learner, machine: &mut Machine, table: &JobTable, en
     ensures spare { learner.old.spare ≤ learner.new.spare + 1 }
     ensures applies { Applies table.now machine.old.rows entry machine.new.rows }
     ensures stands { StandsFor table.now machine.new }
-    ensures count { result ≡ count_ended machine.new.rows entry }
+    ensures count { result ≡ count_raised table.now machine.new.rows entry }
 {
     let slot = learner.prefix();
     match learner.learn(slot, entry) {
@@ -277,7 +277,7 @@ fn learn_next(learner: &mut Learner, machine: &mut Machine, table: &JobTable, en
         Err(_) => unreachable!(),
     }
     machine.apply(table, entry);
-    count_ended(machine, table, entry)
+    count_raised(machine, table, entry)
 }
 
 // The count of a row.
@@ -298,10 +298,10 @@ fn highest_count(rows: &[JobRow]) -> u32
     high
 }
 
-// The count of the job that an entry ends, or 0.
-fn count_ended(machine: &Machine, table: &JobTable, entry: Entry) -> u32
+// The count of the row of which the entry may raise it, or 0.
+fn count_raised(machine: &Machine, table: &JobTable, entry: Entry) -> u32
     requires { StandsFor table.now machine.now }
-    ensures { result ≡ count_ended machine.now.rows entry }
+    ensures { result ≡ count_raised table.now machine.now.rows entry }
 {
     match entry {
         Entry::End { job, .. } => {
@@ -311,7 +311,8 @@ fn count_ended(machine: &Machine, table: &JobTable, entry: Entry) -> u32
                 0
             }
         }
-        Entry::Noop | Entry::Start { .. } | Entry::Table { .. } => 0,
+        Entry::Table { .. } => count_of(&machine.row(table.jobs())),
+        Entry::Noop | Entry::Start { .. } => 0,
     }
 }
 

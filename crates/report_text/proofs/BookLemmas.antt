@@ -1,12 +1,12 @@
 -- What a book's report lists.
 use Rattle.std.proofs.Common.{◌≡◌, ℕ, ◌≤◌, List, None, All, sym, subst, ◌∙◌}
 use Rattle.std.proofs.lemmas.List.Elements.{All-weaker}
-use Rattle.std.proofs.lemmas.Option.{slice_get_within}
 use Rattle.due_set.specs.Table.{IsSound, Table}
 use Rattle.cluster_sched.specs.Held.{AreNamedOnce}
 use Rattle.cluster_sched.specs.Names.{IsNameIn}
 use Rattle.cluster_sched.specs.declared.row.SchedRow.{SchedRow}
 use Rattle.paxos_base.specs.declared.entry.Entry.{Entry}
+use Rattle.launch_machine.specs.Clerk.{in_force}
 use Rattle.launch_safety.specs.Fits.{Fits, IsBacked}
 use Rattle.history.specs.Book.{Row}
 use Rattle.history.specs.Legal.{IsLegal}
@@ -24,10 +24,10 @@ use Rattle.report_text.proofs.OneOrder.{one_text}
 -- a row whose start takes effect is of a launch of the table
 name_of_backed : (table : Table) (log : List Entry) (row : SchedRow) → IsSound table → IsBacked table log row → IsNameIn table row.name
 name_of_backed table log row sound backed =
-    let start = backed.start.1.takes.2 in
+    let takes = backed.start.takes in
     record {
-      job = slice_get_within table.jobs row.name.job backed.spec backed.is_in.is_job;
-      inside = start_near table row.name.job start.row row.name.at backed.start.0 sound start.may;
+      job = takes.known;
+      inside = start_near table (in_force table backed.start.rows) row.name.job takes.row row.name.at backed.start.now sound takes.may;
     }
 
 module _ (table : Table) (members : ℕ) (rows : List Row) (few : members ≤ 7) (legal : IsLegal members table rows) where

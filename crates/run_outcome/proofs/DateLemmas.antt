@@ -1,10 +1,9 @@
 -- A job that may open on a date at an instant that the book passes is launched on it then, unless it's barred.
-use Rattle.std.proofs.Common.{◌≡◌, ◌⊎◌, ℕ, ◌≤◌, Option, Some, None, List, ◌++◌, take, drop, ℤ, ◌≤ℤ◌, ◌<ℤ◌, refl, sym, ap, ◌∙◌, inl, inr, subst, arith}
+use Rattle.std.proofs.Common.{◌≡◌, ◌⊎◌, ℕ, ◌<◌, ◌≤◌, Option, Some, None, List, ◌++◌, length, take, drop, ℤ, ◌≤ℤ◌, ◌<ℤ◌, refl, sym, ap, ◌∙◌, inl, inr, subst, arith}
 use Rattle.std.specs.List.{Contains, slice_get}
 use Rattle.std.proofs.lemmas.Int.{ints, by_lt_z}
 use Rattle.std.proofs.lemmas.Option.{slice_get_within}
 use Rattle.std.proofs.lemmas.List.{take-append-drop}
-use Rattle.std.proofs.lemmas.List.Elements.{All-contains}
 use Rattle.zone_minutes.specs.Civil.{day_number}
 use Rattle.zone_minutes.specs.Zone.{local_of}
 use Rattle.due_set.specs.Anacron.{IsJobOpen, IsOverSince}
@@ -19,12 +18,13 @@ use Rattle.paxos_base.specs.declared.entry.Kind.{Kind}
 use Rattle.paxos_base.specs.declared.entry.Kind.TheVariants.{Launch, Void}
 use Rattle.paxos_base.specs.declared.rows.JobRow.{JobRow}
 use Rattle.cluster_sched.specs.declared.row.SchedRow.{SchedRow}
-use Rattle.launch_machine.specs.Clerk.{IsClerkOf, first_rows}
+use Rattle.launch_machine.specs.Clerk.{IsClerkOf, MayStart, first_force, first_rows, in_force}
+use Rattle.launch_machine.specs.declared.force.InForce.{InForce}
 use Rattle.launch_machine.proofs.MachineLemmas.{may_start_on, opens_by_period}
-use Rattle.launch_safety.specs.Fits.{Fits, HasEnd, HasStart, IsBacked, IsEffective, IsHeld}
+use Rattle.launch_safety.specs.Fits.{Fits, HasEnd, HasStart, IsEffective, IsHeld}
 use Rattle.launch_safety.specs.Launched.{IsCalledAt, IsLatest, OpensBy}
-use Rattle.launch_safety.proofs.CoverLemmas.{IsCovered, clerk_covers}
 use Rattle.launch_safety.proofs.EffectLemmas.{IsEffective-more}
+use Rattle.launch_safety.proofs.OpenLemmas.{open_under}
 use Rattle.launch_safety.proofs.PeriodLemmas.{IsDated, clerk_dates, opens_after_each}
 use Rattle.step_spec.specs.State.{prefix_of}
 use Rattle.agreement.specs.Log.{IsLog}
@@ -32,7 +32,7 @@ use Rattle.history.specs.Book.{Row, standing_after, votes_in}
 use Rattle.history.specs.Legal.{IsLegal}
 use Rattle.history.proofs.Agreement.{book_log}
 use Rattle.launch_safety.specs.Fitting.{held_in}
-use Rattle.launch_safety.proofs.Whole.{whole}
+use Rattle.launch_safety.proofs.Whole.{IsFirstBacked, effective_may, front_force, held_first, whole}
 use Rattle.launch_safety.proofs.ReadLemmas.{held_by}
 use Rattle.run_outcome.proofs.SettledLemmas.{Passes}
 use Rattle.launch_safety.proofs.WholeReadings.{not_ahead}
@@ -77,8 +77,14 @@ module _ (n : ℕ) (table : Table) (book : List Row) (job : ℕ) (now date : ℤ
   whole_log : take known_to log ++ drop known_to log ≡ log
   whole_log = take-append-drop known_to log
 
+  known : job < length table.jobs
+  known = slice_get_within table.jobs job opens.job opens.is_in.is_job
+
   clerk : IsClerkOf table (take known_to log) passes.asks.rows
   clerk = table_at n table passes.front log passes.who passes.asks.rows few front_is is_log passes.asks.rows_are
+
+  first : first_force ≡ in_force table passes.asks.rows
+  first = sym (front_force n table passes.front few front_is log is_log (take known_to log) (drop known_to log) passes.asks.rows (sym whole_log) clerk)
 
   ended : (day : ℤ) (kind : Kind) → HasEnd table (take known_to log) job day kind → HasEnd table log job day kind
   ended day kind end = subst (λ some. HasEnd table some job day kind) whole_log (IsEffective-more table (take known_to log) (drop known_to log) (End job day kind) end)
@@ -96,7 +102,7 @@ module _ (n : ℕ) (table : Table) (book : List Row) (job : ℕ) (now date : ℤ
       let row = found.row in
       let here : Contains (held_in n table book) row = still_held row found.among in
       let low : row.now.0 ≤ℤ now = held_by n table now passes.front row front_is passes.by found.among in
-      let backed : IsBacked table log row = All-contains (IsBacked table log) (held_in n table passes.front) row fits.backed found.among in
+      let backed : IsFirstBacked table log row = held_first n table passes.front log row few front_is is_log found.among in
       let is_in : IsJobIn table 0 row.name.job opens.job opens.zone = subst (λ number. IsJobIn table 0 number opens.job opens.zone) (sym found.of_job) opens.is_in in
       let on_time : day_number (local_of opens.zone row.now.0) ≡ row.name.at =
       subst (λ (k : JobKind). IsOnTime k opens.zone table.grace row.name.at row.now.0) opens.kind ((backed.kind opens.job opens.zone is_in).0 found.of_kind) in
@@ -119,8 +125,7 @@ module _ (n : ℕ) (table : Table) (book : List Row) (job : ℕ) (now date : ℤ
       let start : IsEffective table log (Start job day then) = subst (λ some. IsEffective table some (Start job day then)) whole_log (IsEffective-more table (take known_to log) (drop known_to log) (Start job day then) early) in
       let read : then ≤ℤ now = not_ahead n table passes.front log job day then now few front_is is_log start passes.by in
       let by_period = opens_by_period table job by.last by.last now date opens in
-      let takes = start.takes.2 in
-      let began = may_start_on table job takes.row day then by_period takes.may in
+      let began = may_start_on table job start.takes.2.row day then by_period (effective_may n table passes.front few front_is log is_log job day then start) in
       let shown : day ≡ day_number (local_of opens.zone then) =
       began.is_date ∙ ap day_number (same_local table 0 job began.job opens.job began.zone opens.zone then began.is_in opens.is_in) in
       let there = front_log n table book few legal passes.front passes.back log passes.parts is_log in
@@ -145,7 +150,7 @@ module _ (n : ℕ) (table : Table) (book : List Row) (job : ℕ) (now date : ℤ
       let found : IsHeld (held_in n table passes.front) job day Void = fits.ended job day Void end in
       let row = found.row in
       let read : row.now.0 ≤ℤ now = held_by n table now passes.front row front_is passes.by found.among in
-      let backed : IsBacked table log row = All-contains (IsBacked table log) (held_in n table passes.front) row fits.backed found.among in
+      let backed : IsFirstBacked table log row = held_first n table passes.front log row few front_is is_log found.among in
       let is_in : IsJobIn table 0 row.name.job opens.job opens.zone = subst (λ number. IsJobIn table 0 number opens.job opens.zone) (sym found.of_job) opens.is_in in
       let spec = same_job table 0 row.name.job backed.spec opens.job backed.is_in.is_job is_in.is_job in
       let come_there : row.name.at ≤ℤ day_number (local_of backed.zone row.now.0) =
@@ -172,7 +177,7 @@ module _ (n : ℕ) (table : Table) (book : List Row) (job : ℕ) (now date : ℤ
 
   module _ (row : JobRow) (is_row : slice_get passes.asks.rows job ≡ Some row) where
     dated : IsDated table (take known_to log) job row.cursor row.open_now row.last
-    dated = clerk_dates table (take known_to log) passes.asks.rows job clerk row is_row
+    dated = clerk_dates table (take known_to log) passes.asks.rows job known clerk row is_row
 
     -- a launch that is open is of a later date
     opened : (cursor since : ℤ) → row.cursor ≡ Some cursor → row.open_now ≡ Some since → Result
@@ -180,6 +185,7 @@ module _ (n : ℕ) (table : Table) (book : List Row) (job : ℕ) (now date : ℤ
         by_lt_z date cursor
         (λ later. started_later cursor (dated.begun cursor cursor_is) later)
         (λ come. absurd (passes.asks.rests.0 job cursor (record {
+          known = known;
           row = row;
           is_row = is_row;
           since = since;
@@ -187,7 +193,7 @@ module _ (n : ℕ) (table : Table) (book : List Row) (job : ℕ) (now date : ℤ
           cursor = cursor_is;
           spec = opens.job;
           zone = opens.zone;
-          is_in = opens.is_in;
+          is_in = subst (λ (force : InForce). IsJobIn table force.version job opens.job opens.zone) first opens.is_in;
           come = subst (λ (k : JobKind). HasCome k opens.zone cursor now) (sym opens.kind) (subst (λ day. cursor ≤ℤ day) opens.is_date come);
         })))
 
@@ -207,10 +213,11 @@ module _ (n : ℕ) (table : Table) (book : List Row) (job : ℕ) (now date : ℤ
       where
         starts : IsOverSince opens.period row.last date → Result
         starts over = absurd (passes.asks.rests.1 job date (record {
+          known = known;
           row = row;
           is_row = is_row;
           idle = idle;
-          may = inr (record {
+          may = subst (λ (force : InForce). MayStart table force job row date now) first (inr (record {
             job = opens.job;
             zone = opens.zone;
             is_in = opens.is_in;
@@ -228,7 +235,7 @@ module _ (n : ℕ) (table : Table) (book : List Row) (job : ℕ) (now date : ℤ
               };
             };
             is_date = opens.is_date;
-          });
+          }));
         }))
 
         go : (last : Option ℤ) → row.last ≡ last → Result
@@ -240,11 +247,11 @@ module _ (n : ℕ) (table : Table) (book : List Row) (job : ℕ) (now date : ℤ
           | inr called ↦ inl called
         ]
 
-    by_row : (cursor open_now : Option ℤ) → row.cursor ≡ cursor → row.open_now ≡ open_now → IsCovered table (take known_to log) job cursor open_now → Result
-    by_row None None cursor_is is_open covered = not_started is_open (subst (λ (o : Option ℤ). IsAfter o date) (sym cursor_is) tt)
-    by_row None (Some since) cursor_is is_open covered = absurd covered
-    by_row (Some cursor) (Some since) cursor_is is_open covered = opened cursor since cursor_is is_open
-    by_row (Some cursor) None cursor_is is_open covered =
+    by_row : (cursor open_now : Option ℤ) → row.cursor ≡ cursor → row.open_now ≡ open_now → Result
+    by_row cursor (Some since) cursor_is is_open =
+        let open_since = open_under table (take known_to log) passes.asks.rows job row since clerk is_row is_open in opened open_since.at since open_since.is is_open
+    by_row None None cursor_is is_open = not_started is_open (subst (λ (o : Option ℤ). IsAfter o date) (sym cursor_is) tt)
+    by_row (Some cursor) None cursor_is is_open =
         by_lt_z cursor date
         (λ after. not_started is_open (subst (λ (o : Option ℤ). IsAfter o date) (sym cursor_is) after))
         (λ low.
@@ -253,8 +260,7 @@ module _ (n : ℕ) (table : Table) (book : List Row) (job : ℕ) (now date : ℤ
 
   with_log : Result
   with_log =
-      let found = row_of table (take known_to log) passes.asks.rows job clerk (slice_get_within table.jobs job opens.job opens.is_in.is_job) in
-      by_row found.0 found.1 found.0.cursor found.0.open_now refl refl (clerk_covers table (take known_to log) passes.asks.rows job clerk found.0 found.1)
+      let found = row_of table (take known_to log) passes.asks.rows job clerk known in by_row found.0 found.1 found.0.cursor found.0.open_now refl refl
 
 pub on_date : (n : ℕ) (table : Table) (book : List Row) (job : ℕ) (now date : ℤ) → n ≤ 7 → IsLegal n table book → OpensBy table (held_in n table book) job now date → Passes n table now book
     → IsCalledAt (held_in n table book) job date Launch now ⊎ IsBarred n table book job now date

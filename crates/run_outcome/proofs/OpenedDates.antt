@@ -24,7 +24,7 @@ use Rattle.history.specs.Book.{Row, votes_in}
 use Rattle.history.specs.Legal.{IsLegal}
 use Rattle.history.proofs.Agreement.{book_log}
 use Rattle.launch_safety.specs.Fitting.{held_in}
-use Rattle.launch_safety.proofs.Whole.{held_backed, whole}
+use Rattle.launch_safety.proofs.Whole.{held_first, whole}
 use Rattle.run_outcome.specs.Barred.{IsBarred, IsStartedLater, IsVoidedSooner}
 use Rattle.run_outcome.proofs.DateLemmas.{later_than_each}
 use Rattle.run_outcome.proofs.Minutes.{AllDrained}
@@ -51,7 +51,7 @@ module _ (n : ℕ) (table : Table) (rows : List Row) (few : n ≤ 7) (legal : Is
     pub started_row : (row : SchedRow) → IsRunByPeriod table row.name.job → Contains held row
         → (now : ℤ) × IsEffective table log (Start row.name.job row.name.at now) × (row.kind ≡ Launch) × (row.now.0 ≡ now)
     started_row row by_period has =
-        let (now, start) = (held_backed n table rows log row few legal is_log has).start in
+        let (now, start) = (held_first n table rows log row few legal is_log has).start in
         let call = called_then n table rows few legal known log is_log row.name.job row.name.at now start by_period in
         let same : call.row ≡ row = held_once table log held call.row row fits call.among has call.of_job call.due_at in
         (now, start, sym (ap (λ (r : SchedRow). r.kind) same) ∙ call.of_kind, sym (ap (λ (r : SchedRow). r.now.0) same) ∙ call.called)
@@ -80,7 +80,7 @@ module _ (n : ℕ) (table : Table) (rows : List Row) (few : n ≤ 7) (legal : Is
       opened = opens n table rows few legal known log is_log job at now start by_period
 
       dated : IsDated table start.before job row.cursor row.open_now row.last
-      dated = clerk_dates table start.before start.takes.0 job start.takes.1 row start.takes.2.is_row
+      dated = clerk_dates table start.before start.takes.0 job start.takes.2.known start.takes.1 row start.takes.2.is_row
 
       -- what has taken effect before stands in the log
       in_log : (entry : Entry) → IsEffective table start.before entry → IsEffective table log entry

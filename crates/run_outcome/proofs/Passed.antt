@@ -12,25 +12,24 @@ use Rattle.paxos_base.specs.declared.entry.Entry.{Entry}
 use Rattle.paxos_base.specs.declared.entry.Kind.TheVariants.{Void}
 use Rattle.cluster_sched.specs.declared.row.SchedRow.{SchedRow}
 use Rattle.launch_machine.proofs.MachineLemmas.{may_start_on}
-use Rattle.launch_safety.specs.Fits.{IsBacked}
 use Rattle.history.specs.Book.{Row}
 use Rattle.history.specs.Legal.{IsLegal}
 use Rattle.history.proofs.Agreement.{book_log}
 use Rattle.launch_safety.specs.Fitting.{held_in}
-use Rattle.launch_safety.proofs.Whole.{held_backed}
+use Rattle.launch_safety.proofs.Whole.{IsFirstBacked, effective_may, held_first}
 use Rattle.run_outcome.specs.Barred.{IsBarred, IsStartedLater, IsVoidedSooner, ShowedLater}
 use Rattle.run_outcome.proofs.DateLemmas.{after_day, not_both}
 
-started_passed : (members : ℕ) (table : Table) (rows : List Row) (job : ℕ) (now date : ℤ) → IsRunByPeriod table job → IsStartedLater members table rows job now date → ShowedLater table job now date
-started_passed members table rows job now date by started =
-    let takes = started.start.takes.2 in
-    let opens = may_start_on table job takes.row started.day started.then by takes.may in
+started_passed : (members : ℕ) (table : Table) (rows : List Row) (job : ℕ) (now date : ℤ) → members ≤ 7 → IsLegal members table rows → IsRunByPeriod table job → IsStartedLater members table rows job now date → ShowedLater table job now date
+started_passed members table rows job now date few legal by started =
+    let opens = may_start_on table job started.start.takes.2.row started.day started.then by
+    (effective_may members table rows few legal started.log started.is_log job started.day started.then started.start) in
     let later = started.later in
     let is = opens.is_date in
     record { spec = opens.job; zone = opens.zone; is_in = opens.is_in; then = started.then; sooner = started.sooner; later = omega (arith, ints, later, is) }
 
 -- a launch that was void was called at an instant at which its job's zone showed a later date
-module _ (table : Table) (log : List Entry) (row : SchedRow) (backed : IsBacked table log row) (void : row.kind ≡ Void) where
+module _ (table : Table) (log : List Entry) (row : SchedRow) (backed : IsFirstBacked table log row) (void : row.kind ≡ Void) where
   abbrev shown : ℤ
   shown = day_number (local_of backed.zone row.now.0)
 
@@ -47,7 +46,7 @@ voided_passed : (members : ℕ) (table : Table) (rows : List Row) (job : ℕ) (n
 voided_passed members table rows job now date few legal by voided =
     let row = voided.void.row in
     let (log, is_log) = book_log members table rows few legal in
-    let backed : IsBacked table log row = held_backed members table rows log row few legal is_log voided.void.among in
+    let backed : IsFirstBacked table log row = held_first members table rows log row few legal is_log voided.void.among in
     let runs : IsRunByPeriod table row.name.job = subst (IsRunByPeriod table) (sym voided.void.of_job) by in
     let shown = void_shown table log row backed voided.void.of_kind backed.spec.kind refl (IsRunByPeriod-kind table row.name.job backed.spec backed.is_in.is_job runs) in
     let day = voided.void.due_at in
@@ -65,5 +64,5 @@ voided_passed members table rows job now date few legal by voided =
 
 pub barred_passed : (members : ℕ) (table : Table) (rows : List Row) (job : ℕ) (now date : ℤ) → members ≤ 7 → IsLegal members table rows → IsRunByPeriod table job
     → IsBarred members table rows job now date → ShowedLater table job now date
-barred_passed members table rows job now date few legal by (inl started) = started_passed members table rows job now date by started
+barred_passed members table rows job now date few legal by (inl started) = started_passed members table rows job now date few legal by started
 barred_passed members table rows job now date few legal by (inr voided) = voided_passed members table rows job now date few legal by voided

@@ -1,5 +1,5 @@
 -- What a whole run says, part by part.
-use Rattle.std.proofs.Common.{◌≡◌, ◌≢◌, ℕ, ◌<◌, ◌≤◌, List, ◌∷◌, ◌++◌, true, take, length, ℤ, pos, ◌-ℤ◌, subst}
+use Rattle.std.proofs.Common.{◌≡◌, ◌≢◌, ℕ, ◌<◌, ◌≤◌, List, [], ◌∷◌, ◌++◌, true, take, length, ℤ, pos, ◌-ℤ◌, subst}
 use Rattle.std.specs.List.{Contains}
 use Rattle.std.proofs.lemmas.List.Elements.{All-contains}
 use Rattle.paxos_base.specs.declared.entry.Entry.{Entry}
@@ -9,19 +9,21 @@ use Rattle.paxos_base.specs.declared.entry.Kind.TheVariants.{Launch}
 use Rattle.paxos_base.specs.declared.rows.JobRow.{JobRow}
 use Rattle.due_set.specs.Table.{IsJobDue, Table}
 use Rattle.cluster_sched.specs.declared.row.SchedRow.{SchedRow}
-use Rattle.launch_machine.specs.Clerk.{IsClerkOf, first_rows}
-use Rattle.launch_machine.specs.Intent.{NoCall, NoStart}
+use Rattle.launch_machine.specs.Clerk.{IsClerkOf, first_rows, NoStart}
+use Rattle.launch_machine.specs.Intent.{NoCall}
+use Rattle.launch_machine.specs.Starts.{AdoptionsOf}
 use Rattle.launch_machine.proofs.ClerkLemmas.{AppliesAll-same}
 use Rattle.launch_safety.specs.Fits.{HasEnd, HasStart, IsBacked, IsHeld, StartsInOrder, TakesEffectAfter}
 use Rattle.launch_safety.specs.Launched.{IsCalledAt}
 use Rattle.launch_safety.proofs.FitLemmas.{held_once}
+use Rattle.launch_safety.proofs.Whole.{no_adoptions}
 use Rattle.script_text.specs.declared.command.Command.{Command}
 use Rattle.step_spec.specs.State.{prefix_of}
 use Rattle.agreement.specs.Agree.{IsChosen}
 use Rattle.agreement.specs.Log.{FollowsLog, IsLog}
 use Rattle.agreement.specs.World.{Learning}
 use Rattle.history.specs.Book.{Row, learned_in, standing_after, votes_in}
-use Rattle.history.proofs.Agreement.{book_one_log}
+use Rattle.history.proofs.Agreement.{book_one_log, cut_is_legal}
 use Rattle.launch_safety.specs.Fitting.{held_in}
 use Rattle.run_outcome.specs.Readings.{IsGraceLong, script_turns}
 use Rattle.launch_safety.specs.Readings.{AreTurnsBy}
@@ -64,6 +66,11 @@ said_says members table script rows turns log job at kind whole is_log = (whole.
 pub said_order : (members : ℕ) (table : Table) (script : List Command) (rows : List Row) (turns : ℕ) (log : List Entry) (job : ℕ) → IsWholeRun members table script rows
     → IsLog members (votes_in (take turns rows)) log → StartsInOrder table log job
 said_order members table script rows turns log job whole is_log = (whole.fits turns log is_log).in_order job
+
+pub said_plain : (members : ℕ) (table : Table) (script : List Command) (rows : List Row) (turns : ℕ) (log : List Entry) → members ≤ 7 → IsWholeRun members table script rows
+    → IsLog members (votes_in (take turns rows)) log → AdoptionsOf table log []
+said_plain members table script rows turns log few whole is_log =
+    no_adoptions members table (take turns rows) log few (cut_is_legal members table rows turns whole.legal) is_log
 
 -- ---- at the end
 

@@ -6,8 +6,8 @@ use Rattle.zone_minutes.specs.Window.{IsInWindow}
 use Rattle.paxos_base.specs.declared.entry.Entry.{Entry}
 use Rattle.paxos_base.specs.declared.rows.JobRow.{JobRow}
 use Rattle.due_set.specs.Table.{IsSound, Table}
-use Rattle.launch_machine.specs.Clerk.{IsClerkOf}
-use Rattle.launch_machine.specs.Intent.{NoCall, NoStart}
+use Rattle.launch_machine.specs.Clerk.{IsClerkOf, NoStart}
+use Rattle.launch_machine.specs.Intent.{NoCall}
 use Rattle.script_text.specs.declared.command.Command.{Command}
 use Rattle.step_spec.specs.State.{prefix_of}
 use Rattle.agreement.specs.Log.{IsLog}

@@ -3,7 +3,6 @@ use Rattle.std.proofs.Common.{◌≡◌, ℕ, ◌≤◌, Some, List, ◌++◌, t
 use Rattle.std.specs.List.{Contains}
 use Rattle.std.proofs.lemmas.Int.{ints}
 use Rattle.std.proofs.lemmas.List.{take-append-drop}
-use Rattle.std.proofs.lemmas.List.Elements.{All-contains}
 use Rattle.std.proofs.lemmas.List.Sums.{fold-append}
 use Rattle.due_set.specs.Calls.{HasCome, IsOnTime}
 use Rattle.due_set.specs.Table.{IsJobDue, IsJobIn, Job, Table}
@@ -14,7 +13,7 @@ use Rattle.paxos_base.specs.declared.entry.Kind.{Kind}
 use Rattle.paxos_base.specs.declared.entry.Kind.TheVariants.{Launch}
 use Rattle.cluster_sched.specs.declared.row.SchedRow.{SchedRow}
 use Rattle.launch_machine.specs.Clerk.{IsClerkOf, first_rows}
-use Rattle.launch_safety.specs.Fits.{Fits, HasEnd, HasStart, IsBacked, IsHeld}
+use Rattle.launch_safety.specs.Fits.{Fits, HasEnd, HasStart, IsHeld}
 use Rattle.launch_safety.specs.Launched.{IsCalledAt}
 use Rattle.launch_safety.proofs.CoverLemmas.{HasStart-more}
 use Rattle.launch_safety.proofs.EffectLemmas.{IsEffective-more}
@@ -27,7 +26,7 @@ use Rattle.history.specs.Book.{Row, Standing, after_row, first_standing, standin
 use Rattle.history.specs.Legal.{IsLegal}
 use Rattle.history.proofs.Agreement.{book_log}
 use Rattle.launch_safety.specs.Fitting.{held_in}
-use Rattle.launch_safety.proofs.Whole.{whole}
+use Rattle.launch_safety.proofs.Whole.{IsFirstBacked, front_adopts, held_first, whole}
 use Rattle.script_semantics.specs.Settling.{AsksNothing}
 use Rattle.run_outcome.specs.Readings.{IsGraceLong}
 use Rattle.launch_safety.specs.Readings.{AreTurnsBy}
@@ -52,10 +51,11 @@ pub over : (n : ℕ) (table : Table) (book : List Row) (log : List Entry) (who :
     → HasStart table log job at × (kind : Kind) × HasEnd table log job at kind
 over n table book log who until job at few legal is_log asks due come =
     let k = prefix_of ((standing_after n (first_rows table) book).replicas who) in
+    let whole_log : take k log ++ drop k log ≡ log = take-append-drop k log in
+    let clerk = table_of n table book log who until few legal is_log asks in
     let (start, kind, ended) =
-    settled_over table (take k log) until job at
-    (record { rows = asks.rows; clerk = table_of n table book log who until few legal is_log asks; no_call = asks.rests.0; no_start = asks.rests.1 }) due come in
-    let whole_log : take k log ++ drop k log ≡ log = take-append-drop k log in (
+    settled_over table (take k log) until job at (front_adopts n table book few legal log is_log (take k log) (drop k log) asks.rows (sym whole_log) clerk)
+    (record { rows = asks.rows; clerk = clerk; no_call = asks.rests.0; no_start = asks.rests.1 }) due come in (
       subst (λ some. HasStart table some job at) whole_log (HasStart-more table (take k log) (drop k log) job at start),
       kind,
       subst (λ some. HasEnd table some job at kind) whole_log (IsEffective-more table (take k log) (drop k log) (End job at kind) ended),
@@ -80,7 +80,7 @@ row_of n table book who until job at few legal asks due come =
     let fits : Fits table log (held_in n table book) = whole n table book few legal log is_log in
     let (start, kind, ended) = over n table book log who until job at few legal is_log asks due come in
     let found : IsHeld (held_in n table book) job at kind = fits.ended job at kind ended in
-    let backed : IsBacked table log found.row = All-contains (IsBacked table log) (held_in n table book) found.row fits.backed found.among in
+    let backed : IsFirstBacked table log found.row = held_first n table book log found.row few legal is_log found.among in
     let is_in : IsJobIn table 0 found.row.name.job due.job due.zone = subst (λ number. IsJobIn table 0 number due.job due.zone) (sym found.of_job) due.is_in in
     let kinds = backed.kind due.job due.zone is_in in
     let spec : backed.spec ≡ due.job = same_of (sym backed.is_in.is_job ∙ is_in.is_job) in

@@ -24,11 +24,11 @@ use Rattle.paxos_base.specs.Rows.{fresh_row}
 use Rattle.paxos_base.specs.declared.rows.JobRow.{JobRow}
 use Rattle.cluster_sched.specs.declared.row.SchedRow.{SchedRow}
 use Rattle.launch_machine.specs.Answers.{IsCallKind, IsIntent}
-use Rattle.launch_machine.specs.Clerk.{Applies, AppliesAll, MayStart, TakesStart, first_rows}
-use Rattle.launch_machine.specs.Intent.{NoCall, NoStart}
+use Rattle.launch_machine.specs.Clerk.{Applies, AppliesAll, MayStart, TakesStart, first_force, first_rows, NoStart}
+use Rattle.launch_machine.specs.Intent.{NoCall}
 use Rattle.launch_machine.specs.declared.machine.Intent.TheVariants as intent
 use Rattle.launch_machine.proofs.StartLemmas.{may_start_later}
-use Rattle.launch_machine.proofs.MachineLemmas.{may_start_on, start_within}
+use Rattle.launch_machine.proofs.MachineLemmas.{may_start_on}
 use Rattle.step_spec.specs.Propose.{is_open}
 use Rattle.history.proofs.Asks.{utc, with_table}
 
@@ -126,7 +126,7 @@ abbrev pub end_entry : Entry
 end_entry = entry.End 0 today Launch
 
 takes_start : TakesStart daily (with_table idle) 0 today now
-takes_start = record { row = idle; is_row = refl; idle = refl; may = inr opens }
+takes_start = record { known = lit< tt; row = idle; is_row = refl; idle = refl; may = inr opens }
 
 start_applies : Applies daily (with_table idle) start_entry (with_table opened)
 start_applies = inl (takes_start, refl)
@@ -157,7 +157,7 @@ no_call row at shut (suc (suc job)) date may = let none : None ≡ Some may.row 
 pub start_asked : IsIntent daily (with_table idle) now (intent.Start 0 today)
 start_asked = (no_call idle now refl, record { takes = takes_start; first = λ before other less it. absurd (omega (arith, less)) })
 
-call_kind : IsCallKind daily 0 today now Launch
+call_kind : IsCallKind daily 0 0 today now Launch
 call_kind spec zone is_in =
     let one = only_one spec zone is_in in
     subst (λ (job : Job). (Launch ≡ Launch) ↔ IsOnTime job.kind zone 0 today now) one.0 ((λ it. shown zone one.1), (λ it. refl))
@@ -166,6 +166,7 @@ pub call_asked : IsIntent daily (with_table opened) now (intent.Call 0 today Lau
 call_asked = (
   record {
     may = record {
+      known = lit< tt;
       row = opened;
       is_row = refl;
       since = now;
@@ -185,13 +186,13 @@ call_asked = (
 no_start : NoStart daily (with_table over) now
 no_start zero at takes =
     let row : over ≡ takes.row = cc in
-    let may : MayStart daily 0 over at now = subst (λ (r : JobRow). MayStart daily 0 r at now) (sym row) takes.may in
+    let may : MayStart daily first_force 0 over at now = subst (λ (r : JobRow). MayStart daily first_force 0 r at now) (sym row) takes.may in
     let again = may_start_on daily 0 over at now (daily_job, refl, tt) may in
     let is = only_one again.job again.zone again.is_in in
     let date : at ≡ today = again.is_date ∙ shown again.zone is.1 in
-    let later = may_start_later daily 0 over at now may in
+    let later = may_start_later daily first_force 0 over at now may in
     omega (arith, ints, date, later)
-no_start (suc job) at takes = let below : suc job < 1 = start_within daily (suc job) takes.row at now takes.may in omega (arith, below)
+no_start (suc job) at takes = let below : suc job < 1 = takes.known in omega (arith, below)
 
 pub rest_asked : IsIntent daily (with_table over) now intent.Rest
 rest_asked = (no_call over now refl, no_start)

@@ -15,11 +15,10 @@ use Rattle.paxos_base.specs.declared.entry.Entry.TheVariants as entry
 use Rattle.paxos_base.specs.declared.entry.Kind.TheVariants.{Launch}
 use Rattle.paxos_base.specs.declared.rows.JobRow.{JobRow}
 use Rattle.launch_machine.specs.Answers.{IsCallKind, IsIntent}
-use Rattle.launch_machine.specs.Clerk.{Applies, MayStart, TakesStart}
-use Rattle.launch_machine.specs.Intent.{NoCall, NoStart}
+use Rattle.launch_machine.specs.Clerk.{Applies, MayStart, TakesStart, first_force, NoStart}
+use Rattle.launch_machine.specs.Intent.{NoCall}
 use Rattle.launch_machine.specs.declared.machine.Intent.TheVariants as intent
-use Rattle.launch_machine.proofs.MachineLemmas.{start_within}
-use Rattle.launch_safety.proofs.CoverLemmas.{due_never_opens}
+use Rattle.launch_machine.proofs.MachineLemmas.{due_or_opens}
 use Rattle.history.proofs.Asks.{utc, nothing_below, each_minute, only_job, matches_all, with_table}
 
 -- ---- the table
@@ -95,7 +94,7 @@ abbrev pub end_entry : ℕ → Entry
 end_entry k = entry.End 0 (minute k) Launch
 
 takes_start : (k : ℕ) → k < 2 → TakesStart brief (with_table (idle k)) 0 (minute k) (minute k)
-takes_start k within = record { row = idle k; is_row = refl; idle = refl; may = inl (next k within, omega (arith, ints)) }
+takes_start k within = record { known = lit< tt; row = idle k; is_row = refl; idle = refl; may = inl (next k within, omega (arith, ints)) }
 
 pub start_applies : (k : ℕ) → k < 2 → Applies brief (with_table (idle k)) (start_entry k) (with_table (opened k))
 start_applies k within = inl (takes_start k within, refl)
@@ -114,7 +113,7 @@ no_call k now (suc (suc job)) at may = let none : None ≡ Some may.row = may.is
 pub start_asked : (k : ℕ) → k < 2 → IsIntent brief (with_table (idle k)) (minute k) (intent.Start 0 (minute k))
 start_asked k within = (no_call k (minute k), record { takes = takes_start k within; first = λ before other less it. nothing_below before less })
 
-on_time : (k : ℕ) → IsCallKind brief 0 (minute k) (minute k) Launch
+on_time : (k : ℕ) → IsCallKind brief 0 0 (minute k) (minute k) Launch
 on_time k spec zone is_in =
     let same : only_job ≡ spec = cc_some only_job spec is_in.is_job in
     subst (λ (job : Job). (Launch ≡ Launch) ↔ IsOnTime job.kind zone 2 (minute k) (minute k)) same ((λ it. omega (arith, ints)), (λ it. refl))
@@ -125,7 +124,7 @@ on_time k spec zone is_in =
 pub call_asked : (k : ℕ) → IsIntent brief (with_table (opened k)) (minute k) (intent.Call 0 (minute k) Launch)
 call_asked k = (
   record {
-    may = record { row = opened k; is_row = refl; since = minute k; is_open = refl; cursor = refl; spec = only_job; zone = utc.0; is_in = job_in; come = omega (arith, ints) };
+    may = record { known = lit< tt; row = opened k; is_row = refl; since = minute k; is_open = refl; cursor = refl; spec = only_job; zone = utc.0; is_in = job_in; come = omega (arith, ints) };
     first = λ before other less may. nothing_below before less;
   },
   on_time k,
@@ -135,12 +134,12 @@ call_asked k = (
 no_start : (k : ℕ) → NoStart brief (with_table (idle (suc k))) (minute k)
 no_start k zero at takes =
     let row : idle (suc k) ≡ takes.row = cc in
-    by_may (subst (λ (r : JobRow). MayStart brief 0 r at (minute k)) (sym row) takes.may)
+    by_may (subst (λ (r : JobRow). MayStart brief first_force 0 r at (minute k)) (sym row) takes.may)
   where
-    by_may : MayStart brief 0 (idle (suc k)) at (minute k) → ⊥
+    by_may : MayStart brief first_force 0 (idle (suc k)) at (minute k) → ⊥
     by_may (inl (next, come)) = let later = next.later in omega (arith, ints, later, come)
-    by_may (inr opens) = due_never_opens brief 0 _ _ (minute 0) (minute k) at (due 0 (lit< tt)) opens
-no_start k (suc job) at takes = let below : suc job < 1 = start_within brief (suc job) takes.row at (minute k) takes.may in omega (arith, below)
+    by_may (inr opens) = due_or_opens brief 0 0 _ _ (minute 0) (minute k) at (due 0 (lit< tt)) opens
+no_start k (suc job) at takes = let below : suc job < 1 = takes.known in omega (arith, below)
 
 pub rest_asked : (k : ℕ) → IsIntent brief (with_table (idle (suc k))) (minute k) intent.Rest
 rest_asked k = (no_call (suc k) (minute k), no_start k)

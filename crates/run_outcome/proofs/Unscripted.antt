@@ -19,7 +19,8 @@ use Rattle.paxos_base.specs.declared.entry.Kind.{Kind}
 use Rattle.paxos_base.specs.declared.entry.Kind.TheVariants.{Launch}
 use Rattle.paxos_base.specs.declared.rows.JobRow.{JobRow}
 use Rattle.cluster_sched.specs.declared.row.SchedRow.{SchedRow}
-use Rattle.launch_machine.specs.Clerk.{IsClerkOf, TakesStart, first_rows}
+use Rattle.launch_machine.specs.Clerk.{IsClerkOf, TakesStart, first_force, first_rows, in_force}
+use Rattle.launch_machine.specs.declared.force.InForce.{InForce}
 use Rattle.launch_machine.specs.Intent.{MayCall}
 use Rattle.launch_machine.specs.declared.machine.Intent.TheVariants as intent
 use Rattle.launch_machine.proofs.ClerkLemmas.{AppliesAll-same}
@@ -27,7 +28,7 @@ use Rattle.launch_machine.proofs.MachineLemmas.{may_start_on}
 use Rattle.launch_safety.specs.Fits.{HasEnd, IsEffective, IsHeld}
 use Rattle.launch_safety.specs.Launched.{IsCalledAt}
 use Rattle.launch_safety.proofs.EffectLemmas.{IsEffective-more}
-use Rattle.launch_safety.proofs.FitLemmas.{start_before}
+use Rattle.launch_safety.proofs.OpenLemmas.{start_before}
 use Rattle.launch_safety.proofs.PeriodLemmas.{IsStartedBy, clerk_dates, started_once}
 use Rattle.step_spec.specs.State.{prefix_of}
 use Rattle.agreement.specs.Log.{IsLog}
@@ -37,7 +38,7 @@ use Rattle.history.specs.declared.turn.Turn.{Turn}
 use Rattle.history.specs.declared.turn.Turn.TheVariants.{Did, Stopped, Restarted, Arrived}
 use Rattle.history.proofs.Agreement.{book_log}
 use Rattle.launch_safety.specs.Fitting.{held_in}
-use Rattle.launch_safety.proofs.Whole.{held_backed, whole}
+use Rattle.launch_safety.proofs.Whole.{effective_may, front_force, held_first, whole}
 use Rattle.launch_safety.specs.Readings.{AreTurnsBy, IsTurnBy}
 use Rattle.launch_safety.proofs.ReadLemmas.{held_by}
 use Rattle.launch_safety.specs.Asked.{IsAskedAt, ReadsAt}
@@ -145,13 +146,21 @@ module _ (n : ℕ) (table : Table) (rows : List Row) (few : n ≤ 7) (legal : Is
 
     module _ (by : IsRunByPeriod table job) where
       pub opens : IsJobOpen table 0 job start.takes.2.row.last start.takes.2.row.cursor now at
-      opens = may_start_on table job start.takes.2.row at now by start.takes.2.may
+      opens = may_start_on table job start.takes.2.row at now by (effective_may n table rows few legal log is_log job at now start)
+
+      known_job : job < length table.jobs
+      known_job = slice_get_within table.jobs job opens.job opens.is_in.is_job
 
       found : (row : JobRow) × (slice_get quiet.asks.rows job ≡ Some row)
-      found = row_of table (take known_to front_log) quiet.asks.rows job clerk (slice_get_within table.jobs job opens.job opens.is_in.is_job)
+      found = row_of table (take known_to front_log) quiet.asks.rows job clerk known_job
 
       begun : IsStartedBy table (take known_to front_log) job found.0.cursor found.0.open_now at
-      begun = (clerk_dates table (take known_to front_log) quiet.asks.rows job clerk found.0 found.1).started at (now, in_front)
+      begun = (clerk_dates table (take known_to front_log) quiet.asks.rows job known_job clerk found.0 found.1).started at (now, in_front)
+
+      first : first_force ≡ in_force table quiet.asks.rows
+      first =
+          sym (front_force n table upto few upto_legal front_log upto_log.1 (take known_to front_log) (drop known_to front_log) quiet.asks.rows
+          (sym (take-append-drop known_to front_log)) clerk)
 
       -- it isn't open any more, since it could be called then
       not_open : (since : ℤ) → found.0.open_now ≡ Some since → begun.at ≤ℤ at → ⊥
@@ -161,6 +170,7 @@ module _ (n : ℕ) (table : Table) (rows : List Row) (few : n ≤ 7) (legal : Is
           let shown = opens.is_date in
           let come : at ≤ℤ day_number (local_of opens.zone now) = omega (arith, ints, shown) in
           quiet.asks.rests.0 job at (record {
+            known = known_job;
             row = found.0;
             is_row = found.1;
             since = since;
@@ -168,7 +178,7 @@ module _ (n : ℕ) (table : Table) (rows : List Row) (few : n ≤ 7) (legal : Is
             cursor = begun.is ∙ ap Some same;
             spec = opens.job;
             zone = opens.zone;
-            is_in = opens.is_in;
+            is_in = subst (λ (force : InForce). IsJobIn table force.version job opens.job opens.zone) first opens.is_in;
             come = subst (λ (k : JobKind). HasCome k opens.zone at now) (sym opens.kind) come;
           })
 
@@ -228,7 +238,7 @@ module _ (n : ℕ) (table : Table) (rows : List Row) (few : n ≤ 7) (legal : Is
 
       launched : row.kind ≡ Launch
       launched =
-          let backed = held_backed n table rows log row few legal is_log among in
+          let backed = held_first n table rows log row few legal is_log among in
           let is_in : IsJobIn table 0 row.name.job opens.job opens.zone = subst (λ number. IsJobIn table 0 number opens.job opens.zone) (sym held.of_job) opens.is_in in
           let shown : day_number (local_of opens.zone row.now.0) ≡ row.name.at =
           ap (λ instant. day_number (local_of opens.zone instant)) then ∙ sym opens.is_date ∙ sym held.due_at in

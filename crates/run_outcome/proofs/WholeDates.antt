@@ -6,12 +6,12 @@ use Rattle.zone_minutes.specs.Window.{IsInWindow}
 use Rattle.due_set.specs.Table.{IsJobDue, IsRunByPeriod, Table}
 use Rattle.paxos_base.specs.declared.rows.JobRow.{JobRow}
 use Rattle.cluster_sched.specs.declared.row.SchedRow.{SchedRow}
-use Rattle.launch_machine.specs.Clerk.{TakesStart}
+use Rattle.launch_machine.specs.Clerk.{MayStart, first_force}
 use Rattle.launch_machine.proofs.MachineLemmas.{may_start_on, opens_by_period}
 use Rattle.launch_safety.specs.Fits.{Fits}
 use Rattle.launch_safety.proofs.FitLemmas.{held_once, held_started}
 use Rattle.history.proofs.Agreement.{book_log}
-use Rattle.launch_safety.proofs.Whole.{whole}
+use Rattle.launch_safety.proofs.Whole.{effective_may, whole}
 use Rattle.std.specs.List.{Contains}
 use Rattle.paxos_base.specs.declared.entry.Kind.TheVariants.{Launch}
 use Rattle.script_text.specs.declared.command.Command.{Command}
@@ -60,11 +60,9 @@ date_unscripted n table rows job now date few legal obeyed by =
     ]
 
 -- the job of a row runs by its period, or is due at an instant
-pub by_period_or_not : (table : Table) (rows : List JobRow) (job : ℕ) (at now : ℤ) → TakesStart table rows job at now → IsJobDue table 0 job at ⊎ IsRunByPeriod table job
-by_period_or_not table rows job at now takes = elim takes.may [
-  | inl next ↦ inl next.0.due
-  | inr opens ↦ inr (opens_by_period table job takes.row.last takes.row.cursor now at opens)
-]
+pub by_period_or_not : (table : Table) (row : JobRow) (job : ℕ) (at now : ℤ) → MayStart table first_force job row at now → IsJobDue table 0 job at ⊎ IsRunByPeriod table job
+by_period_or_not table row job at now (inl next) = inl next.0.due
+by_period_or_not table row job at now (inr opens) = inr (opens_by_period table job row.last row.cursor now at opens)
 
 -- what is held is a launch, of a due instant or of a date on which its job might open
 pub other_unscripted : (n : ℕ) (table : Table) (rows : List Row) (row : SchedRow) → n ≤ 7 → IsLegal n table rows → Obeys n table [] rows → Contains (held_in n table rows) row
@@ -73,13 +71,14 @@ other_unscripted n table rows row few legal obeyed has =
     let (log, is_log) = book_log n table rows few legal in
     let fits : Fits table log (held_in n table rows) = whole n table rows few legal log is_log in
     let (now, start) = held_started table log (held_in n table rows) row fits has in
-    elim (by_period_or_not table start.takes.0 row.name.job row.name.at now start.takes.2) [
+    let may = effective_may n table rows few legal log is_log row.name.job row.name.at now start in
+    elim (by_period_or_not table start.takes.2.row row.name.job row.name.at now may) [
       | inl due ↦
           let call = due_unscripted n table rows row.name.job row.name.at few legal obeyed due in
           let same : call.row ≡ row = held_once table log (held_in n table rows) call.row row fits call.among has call.of_job call.due_at in
           (inl due, sym (ap (λ (r : SchedRow). r.kind) same) ∙ call.of_kind)
       | inr by_period ↦
-          let opens = may_start_on table row.name.job start.takes.2.row row.name.at now by_period start.takes.2.may in
+          let opens = may_start_on table row.name.job start.takes.2.row row.name.at now by_period may in
           let known = all_drained n table rows (window_some table now opens.inside) obeyed in
           let (read, began, launched, same) = started_row n table rows few legal known log is_log row by_period has in
           let opened = opened_by n table rows few legal known log is_log row.name.job row.name.at read began by_period in

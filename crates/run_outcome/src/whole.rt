@@ -1,5 +1,5 @@
 //! Laws of whole runs. Each is the contract of a function that does nothing.
-ghost use Rattle.std.specs.Prelude.{◌≡◌, ◌≢◌, ◌<◌, ◌≤◌, ◌<ℤ◌, ℕ, ℤ, pos, ◌-ℤ◌, true, List, ◌∷◌, ◌++◌, length, take, Contains};
+ghost use Rattle.std.specs.Prelude.{◌≡◌, ◌≢◌, ◌<◌, ◌≤◌, ◌<ℤ◌, ℕ, ℤ, pos, ◌-ℤ◌, true, List, [], ◌∷◌, ◌++◌, length, take, Contains};
 ghost use Rattle.paxos_base.specs.declared.entry.Entry.{Entry};
 ghost use Rattle.paxos_base.specs.declared.entry.Entry.TheVariants.{Noop};
 ghost use Rattle.paxos_base.specs.declared.entry.Kind.{Kind};
@@ -7,8 +7,9 @@ ghost use Rattle.paxos_base.specs.declared.entry.Kind.TheVariants.{Launch};
 ghost use Rattle.paxos_base.specs.declared.rows.JobRow.{JobRow};
 ghost use Rattle.due_set.specs.Table.{IsJobDue, IsSound, Table};
 ghost use Rattle.cluster_sched.specs.declared.row.SchedRow.{SchedRow};
-ghost use Rattle.launch_machine.specs.Clerk.{IsClerkOf, first_rows};
-ghost use Rattle.launch_machine.specs.Intent.{NoCall, NoStart};
+ghost use Rattle.launch_machine.specs.Clerk.{IsClerkOf, first_rows, NoStart};
+ghost use Rattle.launch_machine.specs.Intent.{NoCall};
+ghost use Rattle.launch_machine.specs.Starts.{AdoptionsOf};
 ghost use Rattle.launch_safety.specs.Fits.{HasEnd, HasStart, IsBacked, IsHeld, StartsInOrder, TakesEffectAfter};
 ghost use Rattle.launch_safety.specs.Launched.{IsCalledAt};
 ghost use Rattle.script_text.specs.declared.command.Command.{Command};
@@ -33,12 +34,12 @@ pub fn an_obeyed_script_is_whole()
 {}
 
 /// What a whole run of at most seven replicas says. After each turn: what was learned was chosen, and two entries that were learned
-/// for a slot are one; there is a log, and each replica that runs has the launch table of a front of it; two rows that are held of one
-/// launch are one, each is of a launch whose start takes effect in the log, and an end in it says what is held; the starts of a job
-/// come in order, of a crontab's none left out. At the end: each replica has learned the log; each entry but the no-ops takes effect;
-/// at the window's last minute no launch may be called and none is to start; each due instant was started and has ended. It is held as
-/// launched, called at that very instant, where no clock of the script's turns has passed it; and where grace lasts as long as the
-/// window, it is held as launched.
+/// for a slot are one; there is a log, and each replica that runs has the launch table of a front of it; two rows that are held of
+/// one launch are one, each is of a launch whose start takes effect in the log, and an end in it says what is held; the starts of a
+/// job come in order, of a crontab's none left out; no version is adopted. At the end: each replica has learned the log; each entry
+/// but the no-ops takes effect; at the window's last minute no launch may be called and none is to start; each due instant was
+/// started and has ended. It is held as launched, called at that very instant, where no clock of the script's turns has passed it;
+/// and where grace lasts as long as the window, it is held as launched.
 pub fn what_a_whole_run_says()
     ensures chosen { (members : ℕ) (table : Table) (script : List Command) (rows : List Row) (turns : ℕ) (learned : Learning)
         → IsWholeRun members table script rows → Contains (learned_in (take turns rows)) learned
@@ -63,6 +64,8 @@ pub fn what_a_whole_run_says()
         → IsHeld (held_in members table (take turns rows)) job at kind }
     ensures order { (members : ℕ) (table : Table) (script : List Command) (rows : List Row) (turns : ℕ) (log : List Entry) (job : ℕ)
         → IsWholeRun members table script rows → IsLog members (votes_in (take turns rows)) log → StartsInOrder table log job }
+    ensures plain { (members : ℕ) (table : Table) (script : List Command) (rows : List Row) (turns : ℕ) (log : List Entry) → members ≤ 7
+        → IsWholeRun members table script rows → IsLog members (votes_in (take turns rows)) log → AdoptionsOf table log [] }
     ensures learned { (members : ℕ) (table : Table) (script : List Command) (rows : List Row) (log : List Entry) (who : ℕ) → members ≤ 7
         → IsWholeRun members table script rows → IsLog members (votes_in rows) log → who < members
         → prefix_of ((standing_after members (first_rows table) rows).replicas who) ≡ length log }

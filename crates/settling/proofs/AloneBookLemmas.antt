@@ -302,8 +302,8 @@ round_brings_nearer table at book rows situation after leads goes =
     came : CameTo table at situation after leads
     came = round_comes_to table at book rows situation after leads goes
 
-    fewer : rounds_left leads.at.table.window.until.0 came.on.later.rows leads.best (after.standing.waits 0) (after.standing.replicas 0)
-        < rounds_left leads.at.table.window.until.0 leads.at.rows leads.best (situation.standing.waits 0) (situation.standing.replicas 0)
+    fewer : rounds_left leads.at.table came.on.later.rows leads.best (after.standing.waits 0) (after.standing.replicas 0)
+        < rounds_left leads.at.table leads.at.rows leads.best (situation.standing.waits 0) (situation.standing.replicas 0)
         → HasFewerLeft table 0 situation after
     fewer less before later before_is later_is =
         let old : State = situation.standing.replicas 0 in
@@ -313,11 +313,11 @@ round_brings_nearer table at book rows situation after leads goes =
         (subst (λ t. IsLaunchTable t new came.on.later.rows) (came.on.over ∙ leads.over) came.on.leading.launch) in
         let best_before : best_votes old.term ≡ leads.best = ap best_votes leads.leading.is in
         let best_later : best_votes new.term ≡ leads.best = ap best_votes came.on.leading.is in
-        subst (λ b. rounds_left table.window.until.0 later b (after.standing.waits 0) new < rounds_left table.window.until.0 before (best_votes old.term) (situation.standing.waits 0) old) (sym best_later)
-        (subst (λ b. rounds_left table.window.until.0 later leads.best (after.standing.waits 0) new < rounds_left table.window.until.0 before b (situation.standing.waits 0) old) (sym best_before)
-        (subst (λ list. rounds_left table.window.until.0 list leads.best (after.standing.waits 0) new < rounds_left table.window.until.0 before leads.best (situation.standing.waits 0) old) (sym rows_later)
-        (subst (λ list. rounds_left table.window.until.0 came.on.later.rows leads.best (after.standing.waits 0) new < rounds_left table.window.until.0 list leads.best (situation.standing.waits 0) old) (sym rows_before)
-        (subst (λ t. rounds_left t.window.until.0 came.on.later.rows leads.best (after.standing.waits 0) new < rounds_left t.window.until.0 leads.at.rows leads.best (situation.standing.waits 0) old) leads.over less))))
+        subst (λ b. rounds_left table later b (after.standing.waits 0) new < rounds_left table before (best_votes old.term) (situation.standing.waits 0) old) (sym best_later)
+        (subst (λ b. rounds_left table later leads.best (after.standing.waits 0) new < rounds_left table before b (situation.standing.waits 0) old) (sym best_before)
+        (subst (λ list. rounds_left table list leads.best (after.standing.waits 0) new < rounds_left table before leads.best (situation.standing.waits 0) old) (sym rows_later)
+        (subst (λ list. rounds_left table came.on.later.rows leads.best (after.standing.waits 0) new < rounds_left table list leads.best (situation.standing.waits 0) old) (sym rows_before)
+        (subst (λ t. rounds_left t came.on.later.rows leads.best (after.standing.waits 0) new < rounds_left t leads.at.rows leads.best (situation.standing.waits 0) old) leads.over less))))
 
 pub rest_goes_on : (table : Table) (at : ℤ) (book rows : List Row) (situation after : Situation) → LeadsItself table situation → GoesDrainRound 1 table 0 at book rows situation after
     → IsIdleAt table 0 at situation → IsIdleAt table 0 at after

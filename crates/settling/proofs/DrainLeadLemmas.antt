@@ -119,24 +119,22 @@ round_stands members table at book rows situation after goes =
 abbrev Fewer : Table → Option SchedRow → State → Option SchedRow → State → Type 0
 Fewer table waits state next_waits next =
     (old new : List JobRow) → IsLaunchTable table state old → IsLaunchTable table next new
-    → left_of table.window.until.0 new next_waits next < left_of table.window.until.0 old waits state
+    → left_of table new next_waits next < left_of table old waits state
 
 -- what is left to a leader, by the votes that bind it
-left_is : (table : Table) (best : List Vote) (at : Progress) (flight : Option Flight) (rows : List JobRow) (waits : Option SchedRow) (state : State) → IsLeading best flight at state → IsLaunchTable at.table state rows → left_of table.window.until.0 rows waits state ≡ rounds_left table.window.until.0 at.rows best waits state
+left_is : (table : Table) (best : List Vote) (at : Progress) (flight : Option Flight) (rows : List JobRow) (waits : Option SchedRow) (state : State) → IsLeading best flight at state → IsLaunchTable at.table state rows → left_of table rows waits state ≡ rounds_left table at.rows best waits state
 left_is table best at flight rows waits state leading launch =
-    let until = table.window.until.0 in
-    ap (λ votes. rounds_left until rows votes waits state) (ap best_votes leading.is)
-    ∙ ap (λ some. rounds_left until some best waits state) (AppliesAll-same at.table state.kept.rows state.learned rows at.rows launch leading.launch)
+    ap (λ votes. rounds_left table rows votes waits state) (ap best_votes leading.is)
+    ∙ ap (λ some. rounds_left table some best waits state) (AppliesAll-same at.table state.kept.rows state.learned rows at.rows launch leading.launch)
 
 fewer_left : (best : List Vote) (at later : Progress) (flight next_flight : Option Flight) (waits next_waits : Option SchedRow) (state next : State) → IsLeading best flight at state → IsLeading best next_flight later next → later.table ≡ at.table
-    → rounds_left at.table.window.until.0 later.rows best next_waits next < rounds_left at.table.window.until.0 at.rows best waits state
+    → rounds_left at.table later.rows best next_waits next < rounds_left at.table at.rows best waits state
     → Fewer at.table waits state next_waits next
 fewer_left best at later flight next_flight waits next_waits state next leading leads_on same less old new is_old is_new =
-    let until = at.table.window.until.0 in
     let before = left_is at.table best at flight old waits state leading is_old in
     let after = left_is at.table best later next_flight new next_waits next leads_on (subst (λ t. IsLaunchTable t next new) (sym same) is_new) in
-    subst (λ k. k < left_of until old waits state) (sym after)
-    (subst (λ k. rounds_left until later.rows best next_waits next < k) (sym before) less)
+    subst (λ k. k < left_of at.table old waits state) (sym after)
+    (subst (λ k. rounds_left at.table later.rows best next_waits next < k) (sym before) less)
 
 -- ---- idle
 

@@ -24,7 +24,7 @@ use Rattle.synchronous_rounds.specs.Flights.{IsNeeded, Proposal, learned_by, wit
 use Rattle.synchronous_rounds.specs.Measure.{rounds_left, wait_of, work}
 use Rattle.synchronous_rounds.specs.Rounds.{IsAnswerTo}
 use Rattle.synchronous_rounds.specs.LedAlone.{IsLeading, Progress}
-use Rattle.synchronous_rounds.proofs.BeginLemmas.{Begun, begins_entry, calls_for, says_lead, ends, next_entry, proposing, takes_end, tick_begins}
+use Rattle.synchronous_rounds.proofs.BeginLemmas.{Begun, begins_entry, calls_for, says_lead, ended_anew, ends, next_entry, proposing, takes_end, tick_begins}
 use Rattle.synchronous_rounds.proofs.NearLemmas.{learned_nearer}
 use Rattle.synchronous_rounds.proofs.OutcomeLemmas.{no_call_rebase, saying_stays, short_tick, one_call, call_stays}
 use Rattle.synchronous_rounds.proofs.TickLemmas.{due_by, due_is, due_then, holds_rebased, none_due}
@@ -40,7 +40,7 @@ pub record HasNothing (best : List Vote) (at : Progress) (now : ℤ) (waits : Op
 
 -- the rounds that are left to a leader that is so far
 abbrev left_at : List Vote → Progress → Option SchedRow → State → ℕ
-left_at best at waits state = rounds_left at.table.window.until.0 at.rows best waits state
+left_at best at waits state = rounds_left at.table at.rows best waits state
 
 -- It leads itself on in another state, and is nearer to being idle; or it had nothing to do, and is as far as it was.
 pub record LeadsOn (best : List Vote) (at : Progress) (now : ℤ) (waits : Option SchedRow) (state : State) (next_waits : Option SchedRow) (next : State) : Type 0 where
@@ -48,8 +48,8 @@ pub record LeadsOn (best : List Vote) (at : Progress) (now : ℤ) (waits : Optio
   pub over : later.table ≡ at.table
   pub leading : IsLeading best None later next
   pub answers : IfWaits best later next_waits
-  pub comes : (rounds_left at.table.window.until.0 later.rows best next_waits next < left_at best at waits state)
-      ⊎ (HasNothing best at now waits × (rounds_left at.table.window.until.0 later.rows best next_waits next ≡ left_at best at waits state))
+  pub comes : (rounds_left at.table later.rows best next_waits next < left_at best at waits state)
+      ⊎ (HasNothing best at now waits × (rounds_left at.table later.rows best next_waits next ≡ left_at best at waits state))
 
 -- ---- a tick
 
@@ -58,9 +58,8 @@ sooner : (best : List Vote) (at : Progress) (base : ℕ) (waits next_waits : Opt
     → wait_of next_waits (Leader at.ballot best None) + due_by (with_base base at) < wait_of waits (Leader at.ballot best None) + due_by at
     → left_at best at next_waits next < left_at best at waits state
 sooner best at base waits next_waits state next old new less =
-    let until = at.table.window.until.0 in
-    let a = ap (work until at.rows best) old.learned in
-    let b = ap (work until at.rows best) new.learned in
+    let a = ap (work at.table at.rows best) old.learned in
+    let b = ap (work at.table at.rows best) new.learned in
     let c = ap (wait_of waits) old.is in
     let d = ap (wait_of next_waits) new.is in
     let e = due_is (Leader at.ballot best None) at state old in
@@ -242,15 +241,12 @@ ended_leads best at sound now row state next answered leading able on = record {
     first : State
     first = after_acts (proposing alone at entry) state
 
-    until : ℤ
-    until = at.table.window.until.0
-
-    fell : rounds_left until made.later best None first < left_at best at (Some row) state
-    fell = (learned_nearer made (Some row) None state first sound (inr (takes_end at.rows row.name.job row.name.at able.1)) leading.learned
+    fell : rounds_left at.table made.later best None first < left_at best at (Some row) state
+    fell = (learned_nearer made (Some row) None state first sound (inr (ended_anew at.table at.rows made.later row.name.job row.name.at row.kind (takes_end at.rows row.name.job row.name.at able.1) made.applies)) leading.learned
         (record { flight = None; base = at.base; leading = learns_it at best sound entry state leading })).nearer
 
-    go : (rounds_left until on.later.rows best answered next < rounds_left until made.later best None first)
-        ⊎ (HasNothing best (learned_by made) now None × (rounds_left until on.later.rows best answered next ≡ rounds_left until made.later best None first))
-        → rounds_left until on.later.rows best answered next < left_at best at (Some row) state
+    go : (rounds_left at.table on.later.rows best answered next < rounds_left at.table made.later best None first)
+        ⊎ (HasNothing best (learned_by made) now None × (rounds_left at.table on.later.rows best answered next ≡ rounds_left at.table made.later best None first))
+        → rounds_left at.table on.later.rows best answered next < left_at best at (Some row) state
     go (inl less) = omega (arith, less, fell)
     go (inr (nothing, same)) = omega (arith, same, fell)

@@ -10,8 +10,8 @@ use Rattle.paxos_base.specs.declared.entry.Vote.{Vote}
 use Rattle.paxos_base.specs.declared.rows.JobRow.{JobRow}
 use Rattle.due_set.specs.Table.{Table}
 use Rattle.launch_machine.specs.Answers.{IsIntent}
-use Rattle.launch_machine.specs.Clerk.{IsClerkOf, first_rows, table_size}
-use Rattle.launch_machine.specs.Intent.{NoCall, NoStart}
+use Rattle.launch_machine.specs.Clerk.{IsClerkOf, first_rows, table_size, NoStart}
+use Rattle.launch_machine.specs.Intent.{NoCall}
 use Rattle.launch_machine.specs.declared.machine.Intent.TheVariants.{Rest}
 use Rattle.launch_machine.proofs.ClerkLemmas.{AppliesAll-same}
 use Rattle.term_core.specs.declared.term.Term.{Term}

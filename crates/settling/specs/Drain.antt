@@ -12,8 +12,8 @@ use Rattle.settling.specs.Idle.{IsIdleAt, left_of}
 abbrev pub HasFewerLeft : Table → (who : ℕ) → (before after : Situation) → Type 0
 HasFewerLeft table who before after =
     (old new : List JobRow) → IsLaunchTable table (before.standing.replicas who) old → IsLaunchTable table (after.standing.replicas who) new
-    → left_of table.window.until.0 new (after.standing.waits who) (after.standing.replicas who)
-    < left_of table.window.until.0 old (before.standing.waits who) (before.standing.replicas who)
+    → left_of table new (after.standing.waits who) (after.standing.replicas who)
+    < left_of table old (before.standing.waits who) (before.standing.replicas who)
 
 -- **It leads alone, was idle at the instant so many drain rounds ago, and nothing else has come since.**
 abbrev pub IsIdleFor : (rounds members : ℕ) → Table → (who : ℕ) → (at : ℤ) → Situation → Type 0

@@ -25,7 +25,7 @@ HaveCaughtUpWith members who situation =
 
 -- ---- the rounds until then
 
--- **The measure of a drain**: the rounds that are left until a leader is idle, at most, in a window that ends at that minute, with
--- these rows as its launch table and this answer waiting for it, by the votes that bind it.
-abbrev pub left_of : (until : ℤ) → List JobRow → Option SchedRow → State → ℕ
-left_of until rows waits state = rounds_left until rows (best_votes state.term) waits state
+-- **The measure of a drain**: the rounds that are left until a leader is idle, at most, over this table of jobs, with these rows as
+-- its launch table and this answer waiting for it, by the votes that bind it.
+abbrev pub left_of : Table → List JobRow → Option SchedRow → State → ℕ
+left_of table rows waits state = rounds_left table rows (best_votes state.term) waits state

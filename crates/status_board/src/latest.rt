@@ -3,7 +3,7 @@ ghost use Rattle.std.specs.Prelude.{◌≡◌, ◌+◌, ◌<◌, ◌^◌, IfOk, 
 ghost use Rattle.paxos_base.specs.Rows.{RowsStand};
 ghost use Rattle.launch_machine.specs.Clerk.{Applies, first_rows, table_size};
 ghost use Rattle.launch_machine.specs.Machine.{CanCount, StandsFor};
-ghost use Rattle.status_board.specs.Change.{job_in, with_new};
+ghost use Rattle.status_board.specs.Change.{row_changed_by, with_new};
 
 use crate::change::NewRows;
 use cron_io::OutOfMemory;
@@ -19,13 +19,14 @@ pub struct Latest {
     pub machine: Machine,
 }
 
-// The job whose row an entry may change.
-fn job_of(entry: Entry) -> Option<u32>
-    ensures { result ≡ job_in entry }
+// The number of the row that an entry may change.
+fn row_of(table: &JobTable, entry: Entry) -> Option<u32>
+    ensures { result ≡ row_changed_by table.now entry }
 {
     match entry {
-        Entry::Noop | Entry::Table { .. } => None,
+        Entry::Noop => None,
         Entry::Start { job, .. } | Entry::End { job, .. } => Some(job),
+        Entry::Table { .. } => Some(table.jobs()),
     }
 }
 
@@ -72,12 +73,12 @@ impl Latest {
     {
         self.machine.apply(table, entry);
         self.prefix += 1;
-        let Some(job) = job_of(entry) else {
+        let Some(number) = row_of(table, entry) else {
             return NewRows::Same;
         };
-        if job > table.jobs() {
+        if number > table.jobs() {
             return NewRows::Same;
         }
-        NewRows::One(self.machine.row(job))
+        NewRows::One(self.machine.row(number))
     }
 }

@@ -8,17 +8,20 @@ use Rattle.std.proofs.lemmas.Bool.Decides.{Decides-int_eq}
 use Rattle.paxos_base.specs.Durable.{after_delta}
 use Rattle.paxos_base.specs.Vote.{vote_at, votes_from}
 use Rattle.paxos_base.specs.declared.entry.Entry.{Entry}
-use Rattle.paxos_base.specs.declared.entry.Entry.TheVariants.{Noop, Start}
+use Rattle.paxos_base.specs.declared.entry.Entry.TheVariants.{Noop, Start, End}
+use Rattle.paxos_base.specs.declared.entry.Kind.{Kind}
 use Rattle.paxos_base.specs.declared.entry.Vote.{Vote}
 use Rattle.paxos_base.specs.declared.rows.JobRow.{JobRow}
 use Rattle.cluster_sched.specs.declared.row.SchedRow.{SchedRow}
 use Rattle.due_set.specs.Table.{IsSound, Table}
 use Rattle.launch_machine.specs.Answers.{IsIntent}
-use Rattle.launch_machine.specs.Clerk.{TakesEnd}
+use Rattle.launch_machine.specs.Clerk.{Applies, TakesEnd, TakesStart, closed_row, opened_row, with_row}
 use Rattle.launch_machine.specs.Intent.{MayCall}
 use Rattle.launch_machine.specs.declared.machine.Intent.{Intent}
 use Rattle.launch_machine.specs.declared.machine.Intent.TheVariants as intent
 use Rattle.launch_machine.proofs.ExistLemmas.{one_applied}
+use Rattle.launch_machine.proofs.MachineLemmas.{closed_idle}
+use Rattle.launch_machine.proofs.StartLemmas.{changed}
 use Rattle.term_core.specs.Term.{after_proposal, new_flight}
 use Rattle.step_spec.specs.Act.{Act, Call, Send, after_act}
 use Rattle.step_spec.specs.Folds.{after_acts, calls_by, sent_by, sent_to}
@@ -85,6 +88,15 @@ none_at p (first ∷ best) none =
 called_open : (table : Table) (rows : List JobRow) (job : ℕ) (at now : ℤ) → MayCall table rows job at now → is_open job at rows ≡ true
 called_open table rows job at now may = rw (may.is_row, may.is_open, may.cursor) ((Decides-int_eq at at).1 refl)
 
+-- a start that takes effect changes the launch table
+started_anew : (table : Table) (rows later : List JobRow) (job : ℕ) (at now : ℤ) → TakesStart table rows job at now → Applies table rows (Start job at now) later → later ≡ rows → ⊥
+started_anew table rows later job at now takes (inr (not, is)) same = absurd (not takes)
+started_anew table rows later job at now takes (inl (again, is)) same =
+    let there : slice_get (with_row (opened_row at now) rows job) job ≡ Some takes.row = subst (λ (some : List JobRow). slice_get some job ≡ Some takes.row) (sym same ∙ is) takes.is_row in
+    let opened : opened_row at now takes.row ≡ takes.row = changed (opened_row at now) rows job takes.row takes.row takes.is_row there in
+    let shut : Some now ≡ None = ap (λ (r : JobRow). r.open_now) opened ∙ takes.idle in
+    cc
+
 -- what the acts of a tick begin
 pub data Begun (self : Identity) (at : Progress) (best : List Vote) (sound : IsSound at.table) (now : ℤ) (wanted : Intent) (acts : List Act) (state : State) : Type 0 where
   begins_entry : (entry : Entry) → IsNeeded (proposal_of self best at (next_entry at sound entry) 0) → acts ≡ proposing self at entry → Begun self at best sound now wanted acts state
@@ -106,7 +118,8 @@ tick_begins self at best sound now wanted state asked leading =
     follow none (intent.Call job instant kind) asked = calls_for (record { name = record { job = job; at = instant }; kind = kind; now = record { 0 = now }; by = self.me }) none refl (called_open at.table at.rows job instant now asked.0.may) refl
     follow none (intent.Start job instant) asked =
         begins_entry (bound_by (vote_at at.prefix best) (Start job instant now))
-        (rw (none_at at.prefix best none) (inr asked.1.takes))
+        (rw (none_at at.prefix best none)
+        (inr (started_anew at.table at.rows (next_entry at sound (Start job instant now)).later job instant now asked.1.takes (next_entry at sound (Start job instant now)).applies)))
         (ap (λ vote. propose self vote) (vote_is (Start job instant now)))
     follow none intent.Rest asked = says_lead none refl (ap (λ k. Send Others (Lead at.ballot k) ∷ []) leading.learned)
 
@@ -131,6 +144,15 @@ takes_end rows job at is = go (slice_get rows job) refl is
     go : (found : Option JobRow) → slice_get rows job ≡ found → is_row_open at found ≡ true → TakesEnd rows job at
     go None there is = absurd cc
     go (Some row) there is = here row row.open_now row.cursor there refl refl is
+
+-- and changes the launch table by it
+pub ended_anew : (table : Table) (rows later : List JobRow) (job : ℕ) (at : ℤ) (kind : Kind) → TakesEnd rows job at → Applies table rows (End job at kind) later → later ≡ rows → ⊥
+ended_anew table rows later job at kind takes (inr (not, is)) same = absurd (not takes)
+ended_anew table rows later job at kind takes (inl (again, is)) same =
+    let there : slice_get (with_row (closed_row at kind) rows job) job ≡ Some takes.row = subst (λ (some : List JobRow). slice_get some job ≡ Some takes.row) (sym same ∙ is) takes.is_row in
+    let closed : closed_row at kind takes.row ≡ takes.row = changed (closed_row at kind) rows job takes.row takes.row takes.is_row there in
+    let none : None ≡ Some takes.since = sym (closed_idle at kind takes.row) ∙ ap (λ (r : JobRow). r.open_now) closed ∙ takes.is_open in
+    cc
 
 -- the leader proposes the end
 pub ends : (self : Identity) (at : Progress) (best : List Vote) (entry : Entry) (open_now : Bool) (state : State) → open_now ≡ true → votes_from at.prefix best ≡ [] → IsLeading best None at state → answer_of self state entry open_now state.term ≡ proposing self at entry

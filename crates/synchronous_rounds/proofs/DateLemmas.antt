@@ -10,8 +10,8 @@ use Rattle.zone_minutes.proofs.ZoneLemmas.{offset_small}
 use Rattle.due_set.specs.Anacron.{IsJobOpen}
 use Rattle.due_set.specs.Table.{IsSound, Table}
 
-pub dates_inside : (table : Table) (job : ℕ) (last cursor : Option ℤ) (now date : ℤ) → IsSound table → IsJobOpen table 0 job last cursor now date → (pos 0 ≤ℤ date) × (date <ℤ table.window.until.0)
-dates_inside table job last cursor now date sound opens =
+pub dates_inside : (table : Table) (version job : ℕ) (last cursor : Option ℤ) (now date : ℤ) → IsSound table → IsJobOpen table version job last cursor now date → (pos 0 ≤ℤ date) × (date <ℤ table.window.until.0)
+dates_inside table version job last cursor now date sound opens =
     let small : IsOffsetSeconds (offset_at opens.zone (minute_nanos now)) = offset_small opens.zone (minute_nanos now) in
     let ahead : local_of opens.zone now ≡ now +ℤ int_div_euclid (offset_at opens.zone (minute_nanos now)) (pos 60) =
     local_of-ahead opens.zone now (offset_at opens.zone (minute_nanos now)) refl in

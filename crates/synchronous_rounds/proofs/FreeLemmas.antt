@@ -17,11 +17,11 @@ use Rattle.step_spec.specs.Step.{Event, Tick, step}
 use Rattle.agreement.specs.Transition.{identity_of}
 use Rattle.synchronous_rounds.specs.Begins.{Begins, proposal_of}
 use Rattle.synchronous_rounds.specs.Cluster.{Advice, ArePlanned, Cluster, HeardLetter, IsAdvised, after_events, answer_events, before_tick, cluster_round, hear_events, letter_from, letters_to}
-use Rattle.synchronous_rounds.specs.Flights.{Proposal, Proposes, asked_vote}
+use Rattle.synchronous_rounds.specs.Flights.{IsNeeded, Proposal, Proposes, asked_vote}
 use Rattle.synchronous_rounds.specs.Measure.{wait_of}
 use Rattle.synchronous_rounds.specs.Rounds.{HasAnswered, IsAnswerable, IsFreeNow, Lands, WaitsOn}
 use Rattle.synchronous_rounds.specs.LedAlone.{IsLeading, Occurs, Progress}
-use Rattle.synchronous_rounds.proofs.BeginLemmas.{ends, next_entry, proposes_it, proposing, takes_end}
+use Rattle.synchronous_rounds.proofs.BeginLemmas.{ended_anew, ends, next_entry, proposes_it, proposing, takes_end}
 use Rattle.synchronous_rounds.proofs.CountLemmas.{GoesOnBy, goes_mail}
 use Rattle.synchronous_rounds.proofs.FlightLemmas.{BeginsNext, WaitsStill, comes_to, lands}
 use Rattle.synchronous_rounds.proofs.LeaderLemmas.{free_mail}
@@ -45,7 +45,7 @@ unfolding step answer
 answer_next members leader best at row now advice answers cluster able advised = (
   record {
     proposed = next_entry at able.free.sound entry;
-    needed = inr (takes_end at.rows row.name.job row.name.at able.open_there);
+    needed = needed;
     asked = λ who below apart. occurs_next members now advice answers cluster leader who (Accept (asked_vote made)) member
         (subst (λ waits. Occurs (letters_to self who (answer_events waits rows ++ rest) old) leader (Accept (asked_vote made))) (sym able.waits)
         (occurs_left (letter_from leader (sent_to leader who acts)) (letters_to self who rest first) leader (Accept (asked_vote made)) (asks_in self at entry acts who is apart)));
@@ -84,6 +84,9 @@ answer_next members leader best at row now advice answers cluster able advised =
     made : Proposal
     made = proposal_of self best at (next_entry at able.free.sound entry) 0
 
+    needed : IsNeeded made
+    needed = inr (ended_anew at.table at.rows made.later row.name.job row.name.at row.kind (takes_end at.rows row.name.job row.name.at able.open_there) made.applies)
+
     planned : ArePlanned self at.table (answer_events (Some row) rows ++ rest) old
     planned = subst (λ waits. ArePlanned self at.table (answer_events waits rows ++ rest) old) able.waits (advised.planned leader member)
 
@@ -120,4 +123,4 @@ answer_next members leader best at row now advice answers cluster able advised =
       uncalled = still.uncalled;
       nearer = waits_nearer made None (cluster.waits leader) (next.waits leader) old (next.replicas leader) able.free.leading (omega (arith, least)) still.waited;
     })
-    came (inr begins) = inr (lands made now advice cluster next able.free.sound (inr (takes_end at.rows row.name.job row.name.at able.open_there)) able.free.leading.learned begins)
+    came (inr begins) = inr (lands made now advice cluster next able.free.sound needed able.free.leading.learned begins)

@@ -15,9 +15,9 @@
 -- - At a tick its base rises if that is due, and its launch table stays; else its flight waits one tick more, or
 --   it begins something that is needed (`TickLemmas`: `holds_rebased`, `flight_tick`; `BeginLemmas`: `tick_begins`,
 --   `takes_end`; `OutcomeLemmas`: `tick_outcome`).
--- - An entry that takes effect moves a cursor ahead or closes a launch, and a vote below the prefix binds no more,
---   so the work falls with each learned entry; a date, as a number, is below the window's minutes (`WorkLemmas`:
---   `effect_falls`, `learned_work`; `DateLemmas`: `dates_inside`).
+-- - An entry that takes effect moves a cursor ahead, closes a launch or adopts a version, of which a table has a last
+--   one, and a vote below the prefix binds no more, so the work falls with each learned entry; a date, as a number, is
+--   below the window's minutes (`WorkLemmas`: `effect_falls`, `learned_work`; `DateLemmas`: `dates_inside`).
 -- - If nothing is learned the wait falls (`NearLemmas`: `waits_nearer`, `learned_nearer`, `begun_nearer`).
 -- - The rounds of each stage, and the stage after them (`FlightLemmas`: `first_round`, `second_round`; `FreeLemmas`:
 --   `free_next`, `answer_next`; `StageLemmas`: `stage_next`).

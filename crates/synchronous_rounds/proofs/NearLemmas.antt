@@ -19,9 +19,8 @@ use Rattle.synchronous_rounds.proofs.WorkLemmas.{learned_work, one_due, short_wa
 -- with the same rows and the same prefix, it is the next wait that counts
 sooner : (best : List Vote) (at : Progress) (base : ℕ) (held flight : Option Flight) (waits next_waits : Option SchedRow) (state next : State) → IsLeading best held at state → IsLeading best flight (with_base base at) next → wait_of next_waits (Leader at.ballot best flight) + due_by (with_base base at) < wait_of waits (Leader at.ballot best held) + due_by at → IsNearer at.table best (record { rows = at.rows; waits = waits; state = state }) (record { rows = at.rows; waits = next_waits; state = next })
 sooner best at base held flight waits next_waits state next old new less =
-    let until = at.table.window.until.0 in
-    let a = ap (work until at.rows best) old.learned in
-    let b = ap (work until at.rows best) new.learned in
+    let a = ap (work at.table at.rows best) old.learned in
+    let b = ap (work at.table at.rows best) new.learned in
     let c = ap (wait_of waits) old.is in
     let d = ap (wait_of next_waits) new.is in
     let e = due_is (Leader at.ballot best held) at state old in
@@ -32,9 +31,8 @@ sooner best at base held flight waits next_waits state next old new less =
 
 pub waits_nearer : (proposal : Proposal) (held : Option Flight) (waits next_waits : Option SchedRow) (state next : State) → IsLeading proposal.best held proposal.at state → (3 - proposal.waited) ≤ wait_of waits (Leader proposal.at.ballot proposal.best held) → (waited : Waited proposal next) → IsNearer proposal.at.table proposal.best (record { rows = proposal.at.rows; waits = waits; state = state }) (record { rows = proposal.at.rows; waits = next_waits; state = next })
 waits_nearer proposal held waits next_waits state next old least waited =
-    let until = proposal.at.table.window.until.0 in
-    let a = ap (work until proposal.at.rows proposal.best) old.learned in
-    let b = ap (work until proposal.at.rows proposal.best) waited.proposes.leading.learned in
+    let a = ap (work proposal.at.table proposal.at.rows proposal.best) old.learned in
+    let b = ap (work proposal.at.table proposal.at.rows proposal.best) waited.proposes.leading.learned in
     let c = ap (wait_of waits) old.is in
     let d = ap (wait_of next_waits) waited.proposes.leading.is in
     let e = due_is (Leader proposal.at.ballot proposal.best held) proposal.at state old in
@@ -49,10 +47,9 @@ begun_leads members leader best at now advice cluster next (rests it) = record {
 
 pub learned_nearer : (proposal : Proposal) (waits next_waits : Option SchedRow) (state next : State) → IsSound proposal.at.table → IsNeeded proposal → prefix_of state ≡ proposal.at.prefix → LeadsOn proposal.best (learned_by proposal) next → IsNearer proposal.at.table proposal.best (record { rows = proposal.at.rows; waits = waits; state = state }) (record { rows = proposal.later; waits = next_waits; state = next })
 learned_nearer proposal waits next_waits state next sound needed here on =
-    let until = proposal.at.table.window.until.0 in
     let less = learned_work proposal sound needed in
-    let a = ap (work until proposal.at.rows proposal.best) here in
-    let b = ap (work until proposal.later proposal.best) on.leading.learned in
+    let a = ap (work proposal.at.table proposal.at.rows proposal.best) here in
+    let b = ap (work proposal.at.table proposal.later proposal.best) on.leading.learned in
     let d = ap (wait_of next_waits) on.leading.is in
     let short = short_wait next_waits proposal.at.ballot proposal.best on.flight in
     let one = one_due next in

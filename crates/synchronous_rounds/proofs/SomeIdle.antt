@@ -1,5 +1,5 @@
 -- Two replicas over a table without jobs, of which one leads alone and is idle; and rounds after it.
-use Rattle.std.proofs.Common.{◌≡◌, ℕ, zero, suc, ◌+◌, ◌<◌, ◌≤◌, List, [], ◌∷◌, ◌++◌, length, Option, None, Some, ℤ, refl, inl, inr, arith, lit<}
+use Rattle.std.proofs.Common.{◌≡◌, ℕ, zero, suc, ◌+◌, ◌<◌, ◌≤◌, List, [], ◌∷◌, ◌++◌, length, Option, None, Some, ℤ, refl, inr, arith, lit<}
 use Rattle.std.proofs.lemmas.List.Elements.{All-nil}
 use Rattle.paxos_base.specs.Vote.{votes_from}
 use Rattle.paxos_base.specs.declared.durable.Durable.{Durable}
@@ -11,7 +11,7 @@ use Rattle.cluster_sched.specs.declared.row.SchedRow.{SchedRow}
 use Rattle.due_set.proofs.SoundLemmas.{no_later}
 use Rattle.due_set.specs.Table.{IsBuiltFor, IsSound, Table}
 use Rattle.launch_machine.specs.Answers.{IsIntent}
-use Rattle.launch_machine.specs.Clerk.{MayStart, first_rows}
+use Rattle.launch_machine.specs.Clerk.{first_rows}
 use Rattle.launch_machine.specs.declared.machine.Intent.TheVariants.{Rest}
 use Rattle.launch_machine.proofs.ExistLemmas.{all_applied}
 use Rattle.term_core.specs.declared.term.Term.TheVariants.{Follower, Leader}
@@ -22,11 +22,11 @@ use Rattle.step_spec.specs.Step.{Event, IsLaunchTable, IsPlanned, Tick, step}
 use Rattle.agreement.specs.Transition.{identity_of}
 use Rattle.step_spec.proofs.Said.{stays_coherent}
 use Rattle.history.proofs.Asks.{busy, minute, sound}
+use Rattle.history.proofs.TableRows.{rests_without_jobs}
 use Rattle.synchronous_rounds.specs.Cluster.{Advice, ArePlanned, Cluster, HeardLetter, IsAdvised, after_events, answer_events, calls_at, cluster_round, events_at, events_of, hear_events}
 use Rattle.synchronous_rounds.specs.Rounds.{IsAnswerTo}
 use Rattle.synchronous_rounds.specs.LedAlone.{IsBehind, Progress}
 use Rattle.synchronous_rounds.specs.CatchUp.{AreFiveRounds, IsIdle, IsRoundAt}
-use Rattle.step_spec.proofs.ListLemmas.{nothing_found}
 
 -- ---- the table
 
@@ -47,11 +47,7 @@ bare_sound = record {
 
 -- its launch table asks for nothing at any instant
 bare_rests : (rows : List JobRow) (now : ℤ) → IsIntent bare rows now Rest
-bare_rests rows now = ((λ job at may. nothing_found job may.is_in.is_job), (λ job at takes. none job takes.row at takes.may))
-  where
-    none : (job : ℕ) (row : JobRow) (at : ℤ) → MayStart bare job row at now → ⊥
-    none job row at (inl next) = nothing_found job next.0.due.is_in.is_job
-    none job row at (inr opens) = nothing_found job opens.is_in.is_job
+bare_rests rows now = rests_without_jobs bare rows now refl
 
 -- the launch table of a replica
 rows_then : (state : State) → (rows : List JobRow) × IsLaunchTable bare state rows

@@ -7,7 +7,7 @@ use Rattle.paxos_base.specs.declared.entry.Entry.{Entry}
 use Rattle.paxos_base.specs.declared.entry.Vote.{Vote}
 use Rattle.paxos_base.specs.declared.rows.JobRow.{JobRow}
 use Rattle.due_set.specs.Table.{IsSound}
-use Rattle.launch_machine.specs.Clerk.{Applies, TakesEffect}
+use Rattle.launch_machine.specs.Clerk.{Applies}
 use Rattle.term_core.specs.declared.flight.Flight.{Flight}
 use Rattle.step_spec.specs.Message.{Accept, Accepted}
 use Rattle.step_spec.specs.State.{Identity, State}
@@ -63,11 +63,11 @@ abbrev pub IsAccepted : (members leader ballot slot : ℕ) → Cluster → Type 
 IsAccepted members leader ballot slot cluster =
     (who : ℕ) → who < members → (who ≡ leader → ⊥) → Occurs (cluster.mails leader) who (Accepted ballot slot)
 
--- a vote binds the leader to propose something, or what it proposes takes effect
+-- a vote binds the leader to propose something, or what it proposes changes the launch table
 abbrev pub IsNeeded : Proposal → Type 0
 IsNeeded proposal =
     ((vote : Vote) × (others : List Vote) × (votes_from proposal.at.prefix proposal.best ≡ vote ∷ others))
-    ⊎ TakesEffect proposal.at.table proposal.at.rows proposal.entry
+    ⊎ (proposal.later ≡ proposal.at.rows → ⊥)
 
 -- **One leads alone, and its proposal is under way.**
 pub record IsUnderWay (proposal : Proposal) (flight : Flight) (cluster : Cluster) : Type 0 where

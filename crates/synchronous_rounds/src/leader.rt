@@ -93,7 +93,7 @@ pub fn each_round_brings_a_leader_nearer()
 /// it has learned.
 pub fn what_a_round_tells()
     ensures nearer { (table : Table) (best : List Vote) (old new : Reckoned) → IsNearer table best old new
-        → rounds_left table.window.until.0 new.rows best new.waits new.state < rounds_left table.window.until.0 old.rows best old.waits old.state }
+        → rounds_left table new.rows best new.waits new.state < rounds_left table old.rows best old.waits old.state }
     ensures learned { (proposal : Proposal) (now : ℤ) (advice : ℕ → Advice) (cluster next : Cluster) → Lands proposal now advice cluster next
         → (prefix_of (next.replicas proposal.self.me) ≡ proposal.at.prefix + 1)
         × IsLaunchTable proposal.at.table (next.replicas proposal.self.me) proposal.later }

@@ -122,10 +122,10 @@ module _ {D : Type 0} (view : DiskView D) (table : Table) where
 
   left_is : (rows : List Row) (world : World D) (situation : Situation) (who : ℕ) (member : Member D) → IsWorldAt view table rows world situation → AllRun world
       → slice_get world.members.items who ≡ Some member
-      → left_of table.window.until.0 (replica_of member.node).machine.rows (situation.standing.waits who) (situation.standing.replicas who) ≡ left_in table who world
+      → left_of table (replica_of member.node).machine.rows (situation.standing.waits who) (situation.standing.replicas who) ≡ left_in table who world
   left_is rows world situation who member is run there =
-      ap (λ waits. left_of table.window.until.0 (replica_of member.node).machine.rows waits (situation.standing.replicas who)) (sym (node_waits view table rows world situation who member is there))
-      ∙ ap (λ state. left_of table.window.until.0 (replica_of member.node).machine.rows member.mail.waits state)
+      ap (λ waits. left_of table (replica_of member.node).machine.rows waits (situation.standing.replicas who)) (sym (node_waits view table rows world situation who member is there))
+      ∙ ap (λ state. left_of table (replica_of member.node).machine.rows member.mail.waits state)
       (sym (node_state view table rows world situation who member is there (run who member there)))
       ∙ ap (left_to table) (sym there)
 
@@ -151,7 +151,7 @@ module _ {D : Type 0} (view : DiskView D) (table : Table) where
             let falls = fewer (replica_of one.0.node).machine.rows (replica_of two.0.node).machine.rows
             (table_is have.rows old have.situation who one.0 have.is run one.1) (table_is (have.rows ++ gone.0) new gone.1 who two.0 gone.3 run_new two.1) in
             subst (λ n. left_in table who new < n) (left_is have.rows old have.situation who one.0 have.is run one.1)
-            (subst (λ n. n < left_of table.window.until.0 (replica_of one.0.node).machine.rows (have.situation.standing.waits who) (have.situation.standing.replicas who))
+            (subst (λ n. n < left_of table (replica_of one.0.node).machine.rows (have.situation.standing.waits who) (have.situation.standing.replicas who))
             (left_is (have.rows ++ gone.0) new gone.1 who two.0 gone.3 run_new two.1) falls)
       ]
 

@@ -17,7 +17,6 @@ use Rattle.world_rounds.specs.Walking.{AsksNothingIn, IsNoneOpen, WalkedOn}
 use Rattle.world_rounds.specs.World.{GoesOnBy, IsWorld, IsWorldAt}
 use Rattle.world_rounds.specs.declared.world.World.{World}
 use Rattle.std.proofs.lemmas.Bool.{cases_eq, cases_lt}
-use Rattle.std.proofs.lemmas.Option.{slice_get_within}
 use Rattle.std.specs.List.{slice_get}
 use Rattle.launch_machine.specs.Clerk.{TakesStart}
 use Rattle.launch_machine.specs.Next.{StartsNoMore}
@@ -48,8 +47,7 @@ none_before table replica first minute end of_table none_open least ends = λ ot
   | inl empty ↦ absurd (omega (arith, from, below, empty))
   | inr before ↦ asks_none table (pos other) replica of_table (
     λ job at may.
-        let within : job < length table.jobs = slice_get_within table.jobs job may.spec may.is_in.is_job in
-        let none : may.row.open_now ≡ None = none_open job may.row within may.is_row in
+        let none : may.row.open_now ≡ None = none_open job may.row may.known may.is_row in
         let both : Some may.since ≡ None = sym may.is_open ∙ none in cc,
     λ job at takes.
         let late = least job at (pos other) takes in

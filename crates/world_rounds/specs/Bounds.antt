@@ -35,7 +35,7 @@ pub record IsFaultlessIn {D : Type 0} (view : DiskView D) (table : Table) (holds
 abbrev pub left_to : {D : Type 0} → Table → Option (Member D) → ℕ
 left_to table None = 0
 left_to table (Some member) =
-    left_of table.window.until.0 (replica_of member.node).machine.rows member.mail.waits (replica_of member.node).state
+    left_of table (replica_of member.node).machine.rows member.mail.waits (replica_of member.node).state
 
 -- the rounds that are left to a replica of the world, by its number, until it is idle, at most
 abbrev pub left_in : {D : Type 0} → Table → ℕ → World D → ℕ

@@ -1,6 +1,5 @@
 use Rattle.std.proofs.Common.{◌+◌, ◌<◌, length, FitsSigned, w64, arith}
 use Rattle.std.proofs.lemmas.Int.{ints, to_z-of_z}
-use Rattle.std.proofs.lemmas.Option.{slice_get_within}
 use Rattle.min_tree.specs.Least.{HasNoneAtMost, IsFirstAtMost}
 use Rattle.launch_machine.specs.Intent.{IsFirstCall, MayCall}
 use Rattle.launch_machine.proofs.MachineLemmas.{below_next, no_call_from}
@@ -18,7 +17,7 @@ pub overflow_cast-job : goal.overflow_cast-job
 overflow_cast-job c =
     let now_fits : FitsSigned w64 c.args.now.0 = omega (arith, ints) in
     let found : IsFirstAtMost c.args.calls.now c.open.from c.args.now.0 c.in_ok-place.place = simp to_z-of_z at c.in_ok-place.ensures.found in
-    let lt : c.in_ok-place.place < length c.args.table.now.jobs + 1 = place_within c.args.calls.now c.args.rows.now c.args.table.now c.open.from c.args.now.0 c.in_ok-place.place found c.requires.calls.count c.requires.count in
+    let lt : c.in_ok-place.place < length c.args.table.now.jobs + 1 = place_within c.args.calls.now c.args.rows.now c.args.table.now c.open.from c.args.now.0 c.in_ok-place.place found c.requires.calls.count c.requires.stands.numbered.count in
     omega (arith, c.jobs-jobs.ensures.count, c.jobs-jobs.ensures.few)
 
 pub call_at-requires-clause-job : goal.call_at-requires-clause-job
@@ -28,9 +27,8 @@ pub returns-then-place-jobs-clause-none : goal.returns-then-place-jobs-clause-no
 returns-then-place-jobs-clause-none c = λ job at may.
     let now_fits : FitsSigned w64 c.args.now.0 = omega (arith, ints) in
     let found : IsFirstAtMost c.args.calls.now c.open.from c.args.now.0 c.in_ok-place.place = simp to_z-of_z at c.in_ok-place.ensures.found in
-    let below = slice_get_within c.args.table.now.jobs job may.spec may.is_in.is_job in
     no_call_between c.args.table.now c.args.rows.now c.args.calls.now c.args.now.0 c.open.from c.in_ok-place.place c.requires.calls c.requires.inside c.open.invariant found.none_before
-    job at (omega (arith, below, c.jobs-jobs.ensures.count, c.if-place-jobs.true)) may
+    job at (omega (arith, may.known, c.jobs-jobs.ensures.count, c.if-place-jobs.true)) may
 
 pub returns-in-Some-clause-found : goal.returns-in-Some-clause-found
 returns-in-Some-clause-found c =
@@ -47,7 +45,7 @@ pub overflow_add-from : goal.overflow_add-from
 overflow_add-from c =
     let now_fits : FitsSigned w64 c.args.now.0 = omega (arith, ints) in
     let found : IsFirstAtMost c.args.calls.now c.open.from c.args.now.0 c.in_ok-place.place = simp to_z-of_z at c.in_ok-place.ensures.found in
-    let lt : c.in_ok-place.place < length c.args.table.now.jobs + 1 = place_within c.args.calls.now c.args.rows.now c.args.table.now c.open.from c.args.now.0 c.in_ok-place.place found c.requires.calls.count c.requires.count in
+    let lt : c.in_ok-place.place < length c.args.table.now.jobs + 1 = place_within c.args.calls.now c.args.rows.now c.args.table.now c.open.from c.args.now.0 c.in_ok-place.place found c.requires.calls.count c.requires.stands.numbered.count in
     omega (arith, c.jobs-jobs.ensures.count, c.jobs-jobs.ensures.few)
 
 pub open-preserved : goal.open-preserved

@@ -18,7 +18,7 @@ pub overflow_cast-job : goal.overflow_cast-job
 overflow_cast-job c =
     let now_fits : FitsSigned w64 c.args.now.0 = omega (arith, ints) in
     let found : IsFirstAtMost c.args.starts.now c.idle.from c.args.now.0 c.in_ok-place.place = simp to_z-of_z at c.in_ok-place.ensures.found in
-    let lt : c.in_ok-place.place < length c.args.table.now.jobs + 1 = place_within c.args.starts.now c.args.rows.now c.args.table.now c.idle.from c.args.now.0 c.in_ok-place.place found c.requires.starts.count c.requires.count in
+    let lt : c.in_ok-place.place < length c.args.table.now.jobs + 1 = place_within c.args.starts.now c.args.rows.now c.args.table.now c.idle.from c.args.now.0 c.in_ok-place.place found c.requires.starts.count c.requires.stands.numbered.count in
     omega (arith, c.jobs-jobs.ensures.count, c.jobs-jobs.ensures.few)
 
 pub returns-in-Some-clause-found : goal.returns-in-Some-clause-found
@@ -37,7 +37,7 @@ pub overflow_add-from : goal.overflow_add-from
 overflow_add-from c =
     let now_fits : FitsSigned w64 c.args.now.0 = omega (arith, ints) in
     let found : IsFirstAtMost c.args.starts.now c.idle.from c.args.now.0 c.in_ok-place.place = simp to_z-of_z at c.in_ok-place.ensures.found in
-    let lt : c.in_ok-place.place < length c.args.table.now.jobs + 1 = place_within c.args.starts.now c.args.rows.now c.args.table.now c.idle.from c.args.now.0 c.in_ok-place.place found c.requires.starts.count c.requires.count in
+    let lt : c.in_ok-place.place < length c.args.table.now.jobs + 1 = place_within c.args.starts.now c.args.rows.now c.args.table.now c.idle.from c.args.now.0 c.in_ok-place.place found c.requires.starts.count c.requires.stands.numbered.count in
     omega (arith, c.jobs-jobs.ensures.count, c.jobs-jobs.ensures.few)
 
 pub idle-preserved : goal.idle-preserved

@@ -1,7 +1,8 @@
 use Rattle.std.proofs.Common.{◌≡◌, List, FitsSigned, w64, arith, ap, subst, ◌∙◌}
 use Rattle.std.proofs.lemmas.Int.{ints, to_z-of_z}
 use Rattle.paxos_base.specs.declared.rows.JobRow.{JobRow}
-use Rattle.launch_machine.specs.Intent.{NoCall, NoStart, IsFirstStart}
+use Rattle.launch_machine.specs.Clerk.{NoStart}
+use Rattle.launch_machine.specs.Intent.{NoCall, IsFirstStart}
 use Rattle.launch_machine.specs.Machine.{Launches}
 use Rattle.launch_machine.proofs.machine.Machine.choose.Goals as goal
 

@@ -6,6 +6,6 @@ pub returns-clause-rows : goal.returns-clause-rows
 returns-clause-rows c =
     let old = c.args.self.now.machine.rows in
     let new = c.apply.new.self.rows in
-    let number : c.row.result.job ≡ c.in-Some.job = c.apply.ensures.stands.rows.numbered.in_order _ _ c.row.ensures in
+    let number : c.row.result.job ≡ c.in-Some.number = c.apply.ensures.stands.rows.numbered.in_order _ _ c.row.ensures in
     subst (λ (n : ℕ). slice_set old n c.row.result ≡ new) (sym number)
-    (applied_one _ c.args.entry old new c.in-Some.job c.row.result (sym c.job_of.ensures ∙ c.in-Some.is) c.apply.ensures.applies c.row.ensures)
+    (applied_one _ c.args.entry old new c.in-Some.number c.row.result (sym c.row_of.ensures ∙ c.in-Some.is) c.apply.ensures.applies c.row.ensures)
