@@ -1,13 +1,11 @@
 -- A table of two versions of one entry stands.
-use Rattle.std.proofs.Common.{◌≡◌, ℕ, ◌<◌, ◌≤◌, List, [], ◌∷◌, ℤ, pos, ◌≤ℤ◌, map, refl, ap, ◌∙◌, sym, subst, arith}
-use Rattle.std.specs.Prelude.{All, AllPairs}
-use Rattle.std.proofs.lemmas.Int.{ints}
+use Rattle.std.proofs.Common.{◌≡◌, ◌<◌, List, [], ◌∷◌, ℤ, pos, map, refl, ap, ◌∙◌, arith}
 use Rattle.std.proofs.lemmas.List.Elements.{All-nil, All-cons}
 use Rattle.cron_fields.specs.declared.field.Fields.{Fields}
 use Rattle.zone_minutes.specs.Zone.{Zone}
-use Rattle.due_set.specs.Table.{IsBuiltFor, IsKindOfName, IsSound, IsVersionOf, Job, Table, Version, job_of, table_of_versions, utc_over, version_of}
+use Rattle.due_set.specs.Table.{IsBuiltFor, IsKindOfName, IsSound, IsVersionOf, Table, Version, job_of, table_of_versions, version_of}
 use Rattle.due_set.specs.declared.job.VersionSpec.{VersionSpec}
-use Rattle.calendar_tests.specs.Versions.{HasOneEntry, entry_of, hour}
+use Rattle.calendar_tests.specs.Versions.{HasOneEntry, entry_with, hour}
 
 -- from half past on
 abbrev pub half : ℤ
@@ -15,7 +13,7 @@ half = pos 28_530_750
 
 abbrev pub versions_of : Fields → Fields → List Version
 versions_of one other =
-    record { from = hour.from.0; jobs = entry_of one ∷ [] } ∷ record { from = half; jobs = entry_of other ∷ [] } ∷ []
+    record { from = hour.from.0; jobs = entry_with one ∷ [] } ∷ record { from = half; jobs = entry_with other ∷ [] } ∷ []
 
 abbrev pub table : Zone → Fields → Fields → Table
 table zone one other = table_of_versions hour 5 (zone ∷ []) (versions_of one other)
@@ -32,17 +30,17 @@ sound zone one other built = record {
   limits = record { since = grind arith; until = grind arith; ordered = grind arith; short = grind arith };
   grace = omega arith;
   built = All-cons (IsBuiltFor hour) zone [] built (All-nil (IsBuiltFor hour));
-  zone_numbers = All-cons (λ job. job.zone < 1) (entry_of one) [] (omega arith) (All-nil (λ job. job.zone < 1));
+  zone_numbers = All-cons (λ job. job.zone < 1) (entry_with one) [] (omega arith) (All-nil (λ job. job.zone < 1));
   few = omega arith;
   distinct = λ i j d before within. absurd (omega (arith, before, within));
-  kinds = All-cons (λ job. IsKindOfName job.name job.kind) (entry_of one) [] refl (All-nil (λ job. IsKindOfName job.name job.kind));
+  kinds = All-cons (λ job. IsKindOfName job.name job.kind) (entry_with one) [] refl (All-nil (λ job. IsKindOfName job.name job.kind));
   versions = record {
     few = omega arith;
-    each = All-cons (IsVersionOf (table zone one other)) (record { from = half; jobs = entry_of other ∷ [] }) [] (record {
+    each = All-cons (IsVersionOf (table zone one other)) (record { from = half; jobs = entry_with other ∷ [] }) [] (record {
       inside = record { since = grind arith; before = grind arith };
       names = refl;
-      zone_numbers = All-cons (λ job. job.zone < 1) (entry_of other) [] (omega arith) (All-nil (λ job. job.zone < 1));
-      kinds = All-cons (λ job. IsKindOfName job.name job.kind) (entry_of other) [] refl (All-nil (λ job. IsKindOfName job.name job.kind));
+      zone_numbers = All-cons (λ job. job.zone < 1) (entry_with other) [] (omega arith) (All-nil (λ job. job.zone < 1));
+      kinds = All-cons (λ job. IsKindOfName job.name job.kind) (entry_with other) [] refl (All-nil (λ job. IsKindOfName job.name job.kind));
     }) (All-nil (IsVersionOf (table zone one other)));
     in_order = λ i j d before within. absurd (omega (arith, before, within));
   };

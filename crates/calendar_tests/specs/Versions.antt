@@ -10,9 +10,9 @@ abbrev pub hour : Window
 hour = record { from = record { 0 = pos 28_530_720 }; until = record { 0 = pos 28_530_780 } }
 
 -- an entry of alice's
-abbrev pub entry_of : Fields → Job
-entry_of fields = record { name = codes "alice:1"; zone = 0; kind = Crontab fields }
+abbrev pub entry_with : Fields → Job
+entry_with fields = record { name = codes "alice:1"; zone = 0; kind = Crontab fields }
 
 -- the jobs are one entry of alice's
 abbrev pub HasOneEntry : List Job → Type 0
-HasOneEntry jobs = (fields : Fields) × (jobs ≡ entry_of fields ∷ [])
+HasOneEntry jobs = (fields : Fields) × (jobs ≡ entry_with fields ∷ [])

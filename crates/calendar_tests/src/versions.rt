@@ -1,6 +1,5 @@
 //! A table of two versions, in which an entry moves to other minutes.
 ghost use Rattle.std.specs.Prelude.{◌≡◌, length, map, IfOk};
-ghost use Rattle.cron_fields.specs.declared.field.Fields.{Fields};
 ghost use Rattle.due_set.specs.Table.{job_of, version_count};
 ghost use Rattle.calendar_tests.specs.Versions.{HasOneEntry, hour};
 

@@ -1,5 +1,5 @@
 ghost use Rattle.std.specs.Prelude.{◌<◌, length, IfOk};
-ghost use Rattle.due_set.specs.Table.{IsJobDueList, IsSound};
+ghost use Rattle.due_set.specs.Table.{IsJobDueList};
 ghost use Rattle.due_list.specs.Parts.{numbers_of_instants};
 
 use cron_io::OutOfMemory;

@@ -1,5 +1,5 @@
 //! Jobs and tables.
-ghost use Rattle.std.specs.Prelude.{◌≡◌, ◌≤◌, IfOk, IfSome, length};
+ghost use Rattle.std.specs.Prelude.{◌≡◌, ◌≤◌, IfSome, length};
 ghost use Rattle.due_set.specs.Table.{IsKindOfName};
 ghost use Rattle.zone_minutes.specs.Window.{IsInWindow, IsWithinLimits};
 

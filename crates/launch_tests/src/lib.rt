@@ -17,3 +17,5 @@ mod names;
 mod report;
 #[cfg(test)]
 mod tree;
+#[cfg(test)]
+mod versions;

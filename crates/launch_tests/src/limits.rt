@@ -1,5 +1,5 @@
 //! The largest table: 1,000 jobs.
-ghost use Rattle.std.specs.Prelude.{◌≡◌, ◌≤◌, length, map, All, IfOk, IsTrue};
+ghost use Rattle.std.specs.Prelude.{◌≤◌, length, map, IfOk};
 ghost use Rattle.due_set.specs.Table.{job_of, AreKindsOfNames, AreNamesDistinct, AreZonesBelow};
 
 use crate::build::{FROM, fields_of};

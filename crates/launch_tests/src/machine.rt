@@ -51,7 +51,7 @@ fn applied(machine: &mut Machine, table: &JobTable, entry: Entry) -> Option<Effe
 }
 
 /// What a leader does next at a minute of the window.
-fn chosen(machine: &Machine, table: &JobTable, minute: i64) -> Option<Intent>
+pub fn chosen(machine: &Machine, table: &JobTable, minute: i64) -> Option<Intent>
     requires { StandsFor table.now machine.now }
 {
     let now = instant_in(table, minute)?;

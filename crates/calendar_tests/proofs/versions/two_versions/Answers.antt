@@ -1,4 +1,4 @@
-use Rattle.std.proofs.Common.{◌≡◌, List, [], ◌∷◌, ◌++◌, length, map, refl, ap, ◌∙◌, sym, subst}
+use Rattle.std.proofs.Common.{◌≡◌, [], ◌∷◌, ◌++◌, length, map, refl, ap, ◌∙◌, sym, subst}
 use Rattle.due_set.specs.Table.{BeginsWithWindow, IsBuiltFor, IsSound, Table, table_of_versions, version_count, version_of}
 use Rattle.calendar_tests.specs.Versions.{hour}
 use Rattle.calendar_tests.proofs.VersionLemmas.{sound, two_are}
