@@ -20,9 +20,7 @@ impl FreeMail {
         ensures looked { self.new.looked ≡ self.old.looked }
     {
         if let Cause::Hear { .. } = cause {
-            if !self.mail.letters.is_empty() {
-                self.mail.letters.remove(0);
-            }
+            self.mail.letters.pop_front();
         }
     }
 
@@ -41,7 +39,7 @@ impl FreeMail {
         ensures looked { self.new.looked ≡ self.old.looked }
     {
         if to == who && !is_cut(cuts, from, to) {
-            self.mail.letters.push(number)?;
+            self.mail.letters.push_back(number)?;
         }
         Ok(())
     }
@@ -95,7 +93,7 @@ impl FreeMail {
         ensures mail { self.new.mail ≡ self.old.mail }
         ensures looked { self.new.looked ≡ self.old.looked }
     {
-        let Some(number) = self.mail.letters.first() else {
+        let Some(number) = self.mail.letters.front() else {
             return Ok(());
         };
         let number = *number as usize;

@@ -65,7 +65,7 @@ pub(crate) fn next_cause(
     if mail.waits.is_some() {
         return Cause::Answer;
     }
-    match mail.letters.first() {
+    match mail.letters.front() {
         Some(letter) => Cause::Hear { letter: *letter },
         None => idle_cause(mail, term, window, at, who, turn),
     }

@@ -1,5 +1,5 @@
 //! What commands do to the letters that wait: they are lost, turned round, or join their mail once more.
-ghost use Rattle.std.specs.Prelude.{◌≡◌, ◌<◌, IfOk, OnOk, length, map, slice_get};
+ghost use Rattle.std.specs.Prelude.{◌≡◌, ◌<◌, ◌++◌, IfOk, OnOk, length, map, slice_get};
 ghost use Rattle.due_set.specs.Table.{Table};
 ghost use Rattle.script_semantics.specs.Commands.{each_once, from_one, from_others, is_from, set_by};
 ghost use Rattle.script_text.specs.declared.command.Command.TheVariants as command;
@@ -12,6 +12,7 @@ use cron_io::OutOfMemory;
 use disk_model::Disk;
 use indexmap::IndexSet;
 use std::alloc::Global;
+use std::collections::VecDeque;
 use world_law::Book;
 use world_steps::letter_at;
 
@@ -26,7 +27,7 @@ fn is_from(book: &Book, who: u8, number: u64) -> bool
 }
 
 // The letters from a replica leave a mail.
-fn drop_from(book: &Book, who: u8, mail: &mut Vec<u64>)
+fn drop_from(book: &Book, who: u8, mail: &mut VecDeque<u64>)
     ensures { mail.new.items ≡ from_others (map posted_as book.now.letters) who mail.old.items }
 {
     mail.retain(|number| !is_from(book, who, *number));
@@ -37,18 +38,28 @@ fn once_from(
     alloc: Global,
     book: &Book,
     who: u8,
-    mail: &[u64],
+    mail: &VecDeque<u64>,
 ) -> Result<IndexSet<u64>, OutOfMemory>
-    ensures { IfOk result (λ found. found.keys ≡ each_once (from_one (map posted_as book.now.letters) who mail.now)) }
+    ensures { IfOk result (λ found. found.keys ≡ each_once (from_one (map posted_as book.now.letters) who mail.now.items)) }
 {
     let mut found = IndexSet::new(alloc);
-    'numbers: for number in mail {
-        let number = *number;
+    'numbers: for place in 0..mail.len() {
+        let number = mail[place];
         if is_from(book, who, number) {
             found.insert(number)?;
         }
     }
     Ok(found)
+}
+
+// These letters join a mail.
+fn add_all(mail: &mut VecDeque<u64>, numbers: &[u64]) -> Result<(), OutOfMemory>
+    ensures { OnOk result (mail.new.items ≡ mail.old.items ++ numbers.now) }
+{
+    'numbers: for number in numbers {
+        mail.push_back(*number)?;
+    }
+    Ok(())
 }
 
 impl<D: Disk> World<D> {
@@ -73,7 +84,7 @@ impl<D: Disk> World<D> {
     {
         let mail = &mut self.members[to as usize].mail.letters;
         let once = once_from(self.alloc, &self.book, from, mail)?;
-        mail.extend_from_slice(once.as_slice())?;
+        add_all(mail, once.as_slice())?;
         Ok(())
     }
 
@@ -83,7 +94,11 @@ impl<D: Disk> World<D> {
         ensures sets { Changes D.view (set_by (command.Reverse who)) self.old self.new }
         ensures book { book_of self.new ≡ book_of self.old }
     {
-        self.members[who as usize].mail.letters.reverse();
+        self.members[who as usize]
+            .mail
+            .letters
+            .make_contiguous()
+            .reverse();
     }
 
     // A letter joins its addressee's mail once more, where there is such a letter and its addressee runs.
@@ -99,7 +114,10 @@ impl<D: Disk> World<D> {
         if !self.members[to as usize].mail.runs {
             return Ok(());
         }
-        self.members[to as usize].mail.letters.push(number as u64)?;
+        self.members[to as usize]
+            .mail
+            .letters
+            .push_back(number as u64)?;
         Ok(())
     }
 }

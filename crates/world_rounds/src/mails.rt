@@ -26,7 +26,7 @@ impl<D: Disk> World<D> {
         if !self.members[to as usize].mail.runs {
             return Ok(());
         }
-        self.members[to as usize].mail.letters.push(number)?;
+        self.members[to as usize].mail.letters.push_back(number)?;
         Ok(())
     }
 

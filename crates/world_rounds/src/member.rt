@@ -78,7 +78,7 @@ impl<D: Disk> Member<D> {
             &mut self.steps,
             table,
             book,
-            &self.mail.letters,
+            self.mail.letters.make_contiguous(),
         )?;
         self.mail.letters.clear();
         let now = reading_of(&self.mail, table.window(), at);

@@ -62,9 +62,7 @@ fn hear(mail: &mut MemberMail, cause: Cause)
     ensures set { mail.new ≡ record mail.old { letters = mail.new.letters } }
 {
     if let Cause::Hear { .. } = cause {
-        if !mail.letters.is_empty() {
-            mail.letters.remove(0);
-        }
+        mail.letters.pop_front();
     }
 }
 

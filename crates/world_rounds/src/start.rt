@@ -17,6 +17,7 @@ use disk_model::Disk;
 use due_set::JobTable;
 use replica_node::Node;
 use std::alloc::Global;
+use std::collections::VecDeque;
 use world_law::Book;
 use world_steps::{MemberMail, memory_of};
 
@@ -38,7 +39,7 @@ fn start_member<D: Disk>(
             node,
             mail: MemberMail {
                 runs: true,
-                letters: Vec::new(alloc),
+                letters: VecDeque::new(alloc),
                 skew: 0,
                 fate: Fate::Done,
                 waits: None,

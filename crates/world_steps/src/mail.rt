@@ -1,6 +1,7 @@
 //! What is on its way to the replicas of a world, and what is set for them.
 use cluster_sched::{Fate, SchedRow};
 use disk_model::Arm;
+use std::collections::VecDeque;
 use zone_minutes::Minute;
 
 /// What is on its way to a replica, and what is set for it.
@@ -9,7 +10,7 @@ pub struct MemberMail {
     /// Whether it runs.
     pub runs: bool,
     /// The numbers of the letters that wait for it, in the order in which it hears them.
-    pub letters: Vec<u64>,
+    pub letters: VecDeque<u64>,
     /// How many minutes its clock is ahead, from -10,000 to 10,000.
     pub skew: i64,
     /// What becomes of its next call.

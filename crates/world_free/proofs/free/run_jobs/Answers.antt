@@ -1,5 +1,6 @@
-use Rattle.std.proofs.Common.{◌≡◌, List, Some, refl, sym, ap, ◌∙◌, subst}
+use Rattle.std.proofs.Common.{◌≡◌, ◌<◌, ℕ, suc, false, List, length, Some, arith, refl, sym, ap, ◌∙◌, subst}
 use Rattle.std.specs.List.{slice_get}
+use Rattle.std.specs.Prelude.{slice_index_or}
 use Rattle.world_free.specs.Board.{HasShown, OnBoard}
 use Rattle.world_free.specs.Jobs.{AreJobsAt}
 use Rattle.world_free.specs.Plan.{plan_of}
@@ -23,6 +24,12 @@ run_all-requires-clause-others_begun g c =
       others_begun g.D.Disk.view c.args.table.now c.args.book.now c.args.setting.now begun.0 c.in-Some.first.now c.in-Some.others.now
           (subst (λ (l : List (FreeJob g.row.D.Denot)). AreJobsAt g.D.Disk.view plan c.args.book.now 0 l) c.in-Some.ensures.cases.0 begun.1) who none within,
     )
+
+pub run_all-requires-clause-others_memory : goal.run_all-requires-clause-others_memory
+run_all-requires-clause-others_memory g c =
+    let all = subst (λ (l : List (FreeJob g.row.D.Denot)). (who : ℕ) (none : FreeJob g.row.D.Denot) → who < length l → (slice_index_or l who none).short ≡ false)
+    c.in-Some.ensures.cases.0 c.requires.memory in
+    λ lives borrowed who none within. all (suc who) none (omega (arith, within))
 
 pub returns-clause-taken : goal.returns-clause-taken
 returns-clause-taken g c =

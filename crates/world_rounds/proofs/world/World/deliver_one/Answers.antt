@@ -53,4 +53,4 @@ returns-clause-arrives g c =
     let same : c.index.result.now ≡ c.index_mut.result.now = some_same (slice_get c.args.self.now.members.items c.letter_at-letter.result.now.to) c.index.result.now c.index_mut.result.now one there in
     moved g.D.Disk.view table rows c.args.self.now _ situation c.args.number c.letter_at-letter.result.now c.index_mut.result.now _ is
     c.letter_at-letter.ensures.letter there (rw (sym c.deref.ensures.value) (sym c.is_cut.ensures.cut ∙ c.if-is_cut.false)) (ap (λ member. member.mail.runs) (sym same) ∙ c.if-not-index.false) refl refl refl refl
-    refl refl c.in_ok-push.ensures.items refl refl refl refl refl
+    refl refl c.in_ok-push_back.ensures.items refl refl refl refl refl

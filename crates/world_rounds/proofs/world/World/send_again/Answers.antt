@@ -53,4 +53,4 @@ returns-clause-sets g c =
     slice_get_read c.args.self.now.members.items (length c.args.self.now.members.items) c.letter_at.result.now.to c.index_mut.result.now refl below c.index_mut.ensures.value in
     let same : c.index.result.now ≡ c.index_mut.result.now = some_same (slice_get c.args.self.now.members.items c.letter_at.result.now.to) c.index.result.now c.index_mut.result.now one there in
     again_moved g.D.Disk.view c.args.self.now _ c.args.number c.letter_at.result.now c.index_mut.result.now _ c.letter_at.ensures.letter there
-    (ap (λ member. member.mail.runs) (sym same) ∙ c.if-not-index.false) refl refl refl refl refl refl refl refl refl refl refl c.in_ok-push.ensures.items
+    (ap (λ member. member.mail.runs) (sym same) ∙ c.if-not-index.false) refl refl refl refl refl refl refl refl refl refl refl c.in_ok-push_back.ensures.items
