@@ -21,15 +21,15 @@ IsInside window None = ⊤
 IsInside window (Some instant) = IsInWindow window instant
 
 -- the job's due instants up to the last one, if there is one
-pub record DuesUpTo (table : Table) (number : ℕ) (instants : List ℤ) (last : Option ℤ) : Type 0 where
+pub record DuesUpTo (table : Table) (version number : ℕ) (instants : List ℤ) (last : Option ℤ) : Type 0 where
   pub inside : IsInside table.window last
   pub rising : IsRising instants
-  pub sound : (t : ℤ) → Contains instants t → IsJobDue table 0 number t
+  pub sound : (t : ℤ) → Contains instants t → IsJobDue table version number t
   pub none_after : (t : ℤ) → Contains instants t → IsAfter last t → ⊥
-  pub complete : (t : ℤ) → IsJobDue table 0 number t → (IsAfter last t → ⊥) → Contains instants t
+  pub complete : (t : ℤ) → IsJobDue table version number t → (IsAfter last t → ⊥) → Contains instants t
 
-pub dues_none : (table : Table) (number : ℕ) → DuesUpTo table number [] None
-dues_none table number = record {
+pub dues_none : (table : Table) (version number : ℕ) → DuesUpTo table version number [] None
+dues_none table version number = record {
   inside = tt;
   rising = tt;
   sound = λ t h. absurd (Contains-none t h);
@@ -52,14 +52,14 @@ earlier (Some b) x t before after = elim (cases_ltℤ b x) [ inl lt ↦ absurd (
     chain x b t le lt = omega (arith, ints)
 
 -- one due instant more
-pub dues_push : (table : Table) (number : ℕ) (instants : List ℤ) (last : Option ℤ) (t : ℤ) → DuesUpTo table number instants last → IsNextDue table 0 number last t
-    → DuesUpTo table number (instants ++ t ∷ []) (Some t)
-dues_push table number instants last t known next = record {
+pub dues_push : (table : Table) (version number : ℕ) (instants : List ℤ) (last : Option ℤ) (t : ℤ) → DuesUpTo table version number instants last
+    → IsNextDue table version number last t → DuesUpTo table version number (instants ++ t ∷ []) (Some t)
+dues_push table version number instants last t known next = record {
   inside = next.due.inside;
   rising = IsRising-push instants t known.rising before;
   sound = λ u h. elim (Contains-push_cases instants t u h) [
     | inl had ↦ known.sound u had
-    | inr e ↦ subst (IsJobDue table 0 number) e next.due
+    | inr e ↦ subst (IsJobDue table version number) e next.due
   ];
   none_after = λ u h after. elim (Contains-push_cases instants t u h) [
     | inl had ↦ not_both u (before u had) after
@@ -87,9 +87,9 @@ dues_push table number instants last t known next = record {
     same u le up_to = elim (cases_ltℤ t u) [ inl lt ↦ absurd (up_to lt) | inr ge ↦ equal u le ge ]
 
 -- all of them
-pub dues_all : (table : Table) (number : ℕ) (instants : List ℤ) (last : Option ℤ) → DuesUpTo table number instants last
-    → ((t : ℤ) → IsJobDue table 0 number t → IsAfter last t → ⊥) → IsJobDueList table 0 number instants
-dues_all table number instants last known none =
+pub dues_all : (table : Table) (version number : ℕ) (instants : List ℤ) (last : Option ℤ) → DuesUpTo table version number instants last
+    → ((t : ℤ) → IsJobDue table version number t → IsAfter last t → ⊥) → IsJobDueList table version number instants
+dues_all table version number instants last known none =
     record { rising = known.rising; sound = known.sound; complete = λ t due. known.complete t due (none t due) }
 
 pub instants_push : (minutes : List Minute) (minute : Minute) → numbers_of_instants (minutes ++ minute ∷ []) ≡ numbers_of_instants minutes ++ minute.0 ∷ []
@@ -106,8 +106,9 @@ abs_le (pos m) (pos n) from le = omega (arith, ints)
 abs_le (pos m) (negsuc n) from le = absurd (omega (arith, ints))
 abs_le (negsuc m) y from le = absurd (omega (arith, ints))
 
-pub fewer_left : (table : Table) (number : ℕ) (last : Option ℤ) (t : ℤ) → IsNextDue table 0 number last t → minutes_left table.window (Some t) < minutes_left table.window last
-fewer_left table number last t next = by_last last next.later
+pub fewer_left : (table : Table) (version number : ℕ) (last : Option ℤ) (t : ℤ) → IsNextDue table version number last t
+    → minutes_left table.window (Some t) < minutes_left table.window last
+fewer_left table version number last t next = by_last last next.later
   where
     in_window : IsInWindow table.window t
     in_window = next.due.inside
@@ -125,8 +126,9 @@ fewer_left table number last t next = by_last last next.later
         abs_below (table.window.until.0 -ℤ t) (table.window.until.0 -ℤ b) (omega (arith, ints)) (omega (arith, ints))
 
 -- each of the minutes is a due instant
-pub each_due : (table : Table) (number : ℕ) (minutes : List Minute) → IsJobDueList table 0 number (numbers_of_instants minutes) → All (λ minute. IsJobDue table 0 number minute.0) minutes
-each_due table number minutes list k d lt =
+pub each_due : (table : Table) (version number : ℕ) (minutes : List Minute) → IsJobDueList table version number (numbers_of_instants minutes)
+    → All (λ minute. IsJobDue table version number minute.0) minutes
+each_due table version number minutes list k d lt =
     let at_of : Minute → ℤ = λ minute. minute.0 in
     let size : length (numbers_of_instants minutes) ≡ length minutes = length-map minutes at_of in
     let among : Contains (numbers_of_instants minutes) (get_or (numbers_of_instants minutes) k d.0) = Contains-get_or (numbers_of_instants minutes) k d.0 (omega arith) in

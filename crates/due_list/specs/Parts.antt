@@ -1,10 +1,9 @@
 -- Parts of a list that are gathered one after another. Private functions alone cite it.
 use Rattle.std.specs.Prelude.{◌≡◌, ℕ, ◌+◌, List, [], ◌∷◌, ◌++◌, map, flat_map, Option, None, Some, ℤ}
+use Rattle.std.specs.List.{AllZip}
 use Rattle.crontab_text.specs.declared.answer.LineFault.{LineFault}
 use Rattle.zone_minutes.specs.declared.minute.Minute.{Minute}
-use Rattle.due_set.specs.Table.{Table}
 use Rattle.cron_io.specs.Lines.{text_of_lines}
-use Rattle.due_list.specs.DueText.{AreLinesOfJobs}
 use Rattle.due_list.specs.declared.fault.TableFault.{TableFault}
 
 -- the numbers of some instants
@@ -17,10 +16,10 @@ pub record AppendsLines (old new : List ℕ) (Are : List (List ℕ) → Type 0) 
   pub are : Are lines
   pub new_is : new ≡ old ++ text_of_lines lines
 
--- the lines of the jobs of these numbers were appended to a text
-pub record AppendsJobs (table : Table) (numbers : List ℕ) (old new : List ℕ) : Type 0 where
+-- lines of this kind were appended to a text for each of these numbers, in order
+pub record AppendsParts (Are : ℕ → List (List ℕ) → Type 0) (numbers old new : List ℕ) : Type 0 where
   pub parts : List (List (List ℕ))
-  pub are : AreLinesOfJobs table numbers parts
+  pub are : AllZip Are numbers parts
   pub new_is : new ≡ old ++ text_of_lines (flat_map (λ part. part) parts)
 
 -- faults of this kind were added behind others

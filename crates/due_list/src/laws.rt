@@ -13,9 +13,11 @@ pub fn a_table_has_one_due_list()
     ensures one { (table : Table) (a b : List ℕ) → IsDueText table a → IsDueText table b → a ≡ b }
 {}
 
-/// The due list of a table has a line for each due instant of each job, with what the clock of the job's zone shows then.
+/// The due list of a table has a line for each due instant of each job in each version, with what the clock of the job's zone
+/// in that version shows then.
 pub fn a_due_list_has_each_due_instant()
-    ensures { (table : Table) (text : List ℕ) (job : ℕ) (instant : ℤ) → IsDueText table text → (due : IsJobDue table 0 job instant)
+    ensures { (table : Table) (text : List ℕ) (version job : ℕ) (instant : ℤ) → IsDueText table text
+        → (due : IsJobDue table version job instant)
         → (front back : List (List ℕ)) × (text ≡ text_of_lines (front ++ due_line table job due.zone instant ∷ back)) }
 {}
 

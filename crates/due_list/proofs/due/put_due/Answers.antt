@@ -11,14 +11,14 @@ use Rattle.due_list.proofs.due.put_due.Goals as goal
 pub write_name-requires : goal.write_name-requires
 write_name-requires c =
     let limits : IsWithinLimits c.args.table.now.window = c.local_of-shown.ensures.sound.limits in
-    let inside : IsInWindow c.args.table.now.window c.args.at.0 = c.requires.inside in
+    let inside : IsInWindow c.args.table.now.window c.args.at.0 = c.requires.due.inside in
     let fits : FitsSigned w64 c.args.at.0 = omega (arith, ints, limits.since, limits.until, inside.since, inside.before) in
-    simp to_z-of_z (name_in c.args.table.now c.args.job c.args.at.0 c.local_of-shown.ensures.sound c.requires)
+    simp to_z-of_z (name_in c.args.table.now c.args.version c.args.job c.args.at.0 c.local_of-shown.ensures.sound c.requires.job c.requires.due)
 
 pub returns : goal.returns
 returns c = λ j zone is_in.
     let limits : IsWithinLimits c.args.table.now.window = c.local_of-shown.ensures.sound.limits in
-    let inside : IsInWindow c.args.table.now.window c.args.at.0 = c.requires.inside in
+    let inside : IsInWindow c.args.table.now.window c.args.at.0 = c.requires.due.inside in
     let fits : FitsSigned w64 c.args.at.0 = omega (arith, ints, limits.since, limits.until, inside.since, inside.before) in
     let fits_shown : FitsSigned w64 c.local_of-shown.result = omega (arith, ints, c.local_of-shown.ensures.calendar) in
     let name : Name = record { job = c.args.job; at = c.args.at.0 } in
