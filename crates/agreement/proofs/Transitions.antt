@@ -81,8 +81,8 @@ may_more setting more answers state (Propose me vote) stays answers_stay may = r
   where
     enter : (entry : Entry) → MayEnter setting state entry → MayEnter (with_more more answers setting) state entry
     enter Noop it = it
-    enter (TableEntry version now) it = absurd it
     enter (Start job at now) it = record { rows = it.rows; rows_are = it.rows_are; asked = it.asked }
+    enter (TableEntry version now) it = record { rows = it.rows; rows_are = it.rows_are; asked = it.asked }
     enter (End job at kind) it = record { rows = it.rows; rows_are = it.rows_are; open_there = it.open_there; answered = answers_stay _ it.answered }
 may_more setting more answers state (Count from) stays answers_stay may = record {
   ballot = may.ballot;

@@ -12,6 +12,7 @@ pub mod SeenLemmas
 pub mod ServeLemmas
 pub mod StatusLemmas
 pub mod VerdictLemmas
+pub mod VersionLemmas
 pub mod WatchLemmas
 pub mod WholeLemmas
 pub mod WishLemmas

@@ -1,5 +1,5 @@
 -- What the summary of a made run tells of its book.
-use Rattle.std.proofs.Common.{◌≡◌, ◌⊎◌, inl, inr, ℕ, List, sym, subst, arith, pos, ◌+ℤ◌, ◌≤ℤ◌}
+use Rattle.std.proofs.Common.{◌≡◌, ◌⊎◌, inl, inr, ℕ, List, [], ℤ, ap, sym, subst, arith, pos, ◌+ℤ◌, ◌≤ℤ◌}
 use Rattle.std.proofs.lemmas.Int.{ints}
 use Rattle.cron_io.specs.Views.{SourceView, SinkView}
 use Rattle.cron_io.specs.Writing.{HasGained}
@@ -9,6 +9,8 @@ use Rattle.replica_node.specs.declared.node.Node.{Node}
 use Rattle.world_law.specs.Book.{BookState}
 use Rattle.job_table.specs.Table.{IsTableOf}
 use Rattle.journal_text.specs.Summary.{IsBookSummary}
+use Rattle.launch_machine.proofs.ExistLemmas.{AdoptionsOf-same}
+use Rattle.launch_safety.proofs.Whole.{no_adoptions}
 use Rattle.run_text.specs.Run.{Run}
 use Rattle.run_outcome.specs.Readings.{IsGraceLong}
 use Rattle.run_outcome.specs.Whole.{HoldsEachDue}
@@ -19,6 +21,7 @@ use Rattle.cron_serve.specs.Promise.{HasOnlyDue}
 use Rattle.cron_serve.specs.Serve.{IsRunOf, IsTextOfInput, WritesText}
 use Rattle.cron_serve.specs.declared.run_end.RunEnd.{RunEnd}
 use Rattle.cron_serve.specs.declared.words.Output.TheVariants.{Summary}
+use Rattle.cron_serve.proofs.PlayLemmas.{few_members}
 use Rattle.cron_serve.proofs.PromiseLemmas.{all_due}
 use Rattle.run_input.proofs.VerdictLemmas.{same_run}
 use Rattle.cron_serve.proofs.WholeLemmas.{each_within_grace}
@@ -26,6 +29,14 @@ use Rattle.cron_serve.proofs.WholeLemmas.{each_within_grace}
 -- a run of the text that a seed makes is the run that it makes
 made_is : (seed : ℕ) (table : Table) (book : BookState) (nodes : List (Node MemDisk)) (run : IsRunOf (made_text seed) table book nodes) → run.run ≡ made_run seed
 made_is seed table book nodes run = same_run (made_text seed) run.run (made_run seed) run.taken.says (text_says seed)
+
+-- such a run adopts no version: its table has one
+made_adopts_none : (seed : ℕ) (table : Table) (book : BookState) (nodes : List (Node MemDisk)) (run : IsRunOf (made_text seed) table book nodes) → IsTableOf (made_run seed) table
+    → run.whole.adoptions ≡ []
+made_adopts_none seed table book nodes run is =
+    let one : table.later ≡ [] = ap (λ (t : Table). t.later) is.is in
+    let none = no_adoptions run.run.members table run.rows run.whole.log (few_members (made_text seed) run.run table run.taken) run.whole.legal run.whole.is_log one in
+    AdoptionsOf-same table run.whole.log run.whole.adoptions [] run.whole.adopted none
 
 -- grace lasts as long as the window
 made_grace : (seed : ℕ) (table : Table) → IsTableOf (made_run seed) table → IsGraceLong table
@@ -64,13 +75,15 @@ module _ (seed : ℕ) (source source' : SourceView) (sink sink' : SinkView) (end
 
   -- so each due instant is launched
   pub launched_at : (end.status ≡ 0) ⊎ (end.status ≡ 4)
-      → (table : Table) × IsTableOf (made_run seed) table × HoldsEachDue table end.book.ledger.held × HasOnlyDue table end.book.ledger.held
+      → (table : Table) × IsTableOf (made_run seed) table × HoldsEachDue table [] end.book.ledger.held × HasOnlyDue table [] end.book.ledger.held
   launched_at status =
       let (table, run, same) = played_at status in
       let table_is : IsTableOf (made_run seed) table = subst (λ (r : Run). IsTableOf r table) same run.taken.table_is in
+      let none = made_adopts_none seed table end.book end.nodes.items run table_is in
       let long = made_grace seed table table_is in (
         table,
         table_is,
-        (λ job at due. each_within_grace (made_text seed) table end.book end.nodes.items run job at long due),
-        all_due (made_text seed) table end.book end.nodes.items run,
+        subst (λ (adoptions : List ℤ). HoldsEachDue table adoptions end.book.ledger.held) none
+            (λ job at due. each_within_grace (made_text seed) table end.book end.nodes.items run job at long due),
+        subst (λ (adoptions : List ℤ). HasOnlyDue table adoptions end.book.ledger.held) none (all_due (made_text seed) table end.book end.nodes.items run),
       )

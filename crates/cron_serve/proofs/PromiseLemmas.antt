@@ -1,14 +1,16 @@
 -- What the report of a run tells of its launches.
-use Rattle.std.proofs.Common.{◌≡◌, ℕ, List, ◌++◌, ap, false, refl, sym, ◌∙◌, subst}
+use Rattle.std.proofs.Common.{◌≡◌, ℕ, List, ◌++◌, ap, false, inl, inr, refl, sym, ◌∙◌, subst}
+use Rattle.std.proofs.lemmas.Bool.{cases_Bool}
 use Rattle.std.proofs.lemmas.List.{append-nil}
 use Rattle.cron_io.specs.Views.{SourceView, SinkView}
 use Rattle.disk_model.specs.declared.mem_disk.MemDisk.{MemDisk}
-use Rattle.due_set.specs.Table.{Table}
+use Rattle.due_set.specs.Table.{Table, is_by_period}
 use Rattle.replica_node.specs.declared.node.Node.{Node}
 use Rattle.world_law.specs.Book.{BookState}
 use Rattle.report_text.specs.Report.{IsReport}
 use Rattle.report_text.proofs.BookLemmas.{of_ledger}
-use Rattle.run_outcome.proofs.WholeDates.{by_period_or_not}
+use Rattle.paxos_base.specs.declared.entry.Kind.TheVariants.{Launch}
+use Rattle.launch_safety.proofs.VersionLemmas.{are_adoptions}
 use Rattle.cron_serve.specs.Ends.{Ends}
 use Rattle.cron_serve.specs.Program.{EndsProgram}
 use Rattle.cron_serve.specs.Promise.{HasEachDue, HasOnlyDue, ReportsInput, ReportsLaunches}
@@ -18,15 +20,18 @@ use Rattle.cron_serve.specs.declared.run_end.RunEnd.{RunEnd}
 use Rattle.cron_serve.specs.declared.words.Output.TheVariants.{Report}
 use Rattle.cron_serve.specs.declared.words.Request.{Request}
 use Rattle.cron_serve.specs.declared.words.Request.TheVariants.{Text}
-use Rattle.cron_serve.proofs.WholeLemmas.{all_launched, each_ended, each_within_grace, fitting, may_be_started, periods_apart}
+use Rattle.run_outcome.proofs.SettledLemmas.{called_held}
+use Rattle.cron_serve.proofs.WholeLemmas.{all_launched, each_called, each_ended, each_within_grace, fitting, periods_apart, row_due}
 
 module _ (bytes : List ℕ) (table : Table) (book : BookState) (nodes : List (Node MemDisk)) (run : IsRunOf bytes table book nodes) where
-  each_due_ended : HasEachDue table book.ledger.held
+  each_due_ended : HasEachDue table run.whole.adoptions book.ledger.held
   each_due_ended job at due = let (start, kind, ended, held) = each_ended bytes table book nodes run job at due in (kind, held)
 
-  pub all_due : HasOnlyDue table book.ledger.held
-  all_due row among =
-      let (start, now, may) = may_be_started bytes table book nodes run row among in by_period_or_not table start row.name.job row.name.at now may
+  pub all_due : HasOnlyDue table run.whole.adoptions book.ledger.held
+  all_due row among = elim (cases_Bool (is_by_period table row.name.job)) [
+    | inl period ↦ inr period
+    | inr plain ↦ inl (row_due bytes table book nodes run row plain among)
+  ]
 
   pub reports_launches : (text : List ℕ) → IsReport table book.members book.ledger.held text
       → ReportsLaunches table run.run.members run.run.commands text
@@ -34,11 +39,14 @@ module _ (bytes : List ℕ) (table : Table) (book : BookState) (nodes : List (No
     rows = book.ledger.held;
     report = subst (λ (members : ℕ). IsReport table members book.ledger.held text) run.members report;
     once = (fitting bytes table book nodes run).once;
+    adoptions = run.whole.adoptions;
+    adopted = are_adoptions table run.whole.log run.whole.adoptions run.whole.adopted;
     ended = each_due_ended;
     due = all_due;
     apart = periods_apart bytes table book nodes run;
     in_grace = λ long job at due. each_within_grace bytes table book nodes run job at long due;
-    undisturbed = λ none. all_launched bytes table book nodes run none;
+    unscripted = λ none job at due. called_held book.ledger.held job at at Launch (each_called bytes table book nodes run none job at due);
+    undisturbed = λ none plain. all_launched bytes table book nodes run none plain;
   }
 
 of_report : (bytes : List ℕ) (book : BookState) (nodes : List (Node MemDisk)) (text : List ℕ) (is : IsReportOf false false bytes book nodes text)

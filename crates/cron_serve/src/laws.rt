@@ -14,15 +14,16 @@ ghost use Rattle.paxos_base.specs.declared.entry.Kind.TheVariants.{Launch};
 ghost use Rattle.paxos_base.specs.declared.rows.JobRow.{JobRow};
 ghost use Rattle.due_set.specs.Anacron.{IsPeriodOver};
 ghost use Rattle.due_set.specs.Due.{IsRising};
-ghost use Rattle.due_set.specs.Table.{Job, Table, IsJobDue};
+ghost use Rattle.due_set.specs.Table.{Job, Table, job_of_version};
 ghost use Rattle.due_set.specs.declared.job.JobKind.TheVariants.{Anacron};
 ghost use Rattle.due_set.specs.declared.job.Period.{Period};
 ghost use Rattle.cluster_sched.specs.declared.row.SchedRow.{SchedRow};
 ghost use Rattle.agreement.specs.Transition.{identity_of};
-ghost use Rattle.launch_safety.specs.Fits.{HasStart, HasEnd, IsBacked, IsEffective, IsHeld};
+ghost use Rattle.launch_safety.specs.Fits.{HasStart, HasEnd, IsBacked, IsEffective, IsHeld, IsStartedUnder};
 ghost use Rattle.launch_safety.specs.Launched.{IsCalledAt, IsWanted, LaunchesEachDue, OpensBy};
 ghost use Rattle.launch_machine.specs.Clerk.{IsClerkOf, table_size};
 ghost use Rattle.launch_machine.specs.Starts.{StartsOf};
+ghost use Rattle.launch_machine.specs.Versions.{IsDueUnder};
 ghost use Rattle.step_spec.specs.Step.{IsLaunchTable};
 ghost use Rattle.replica_node.specs.Node.{disk_of, replica_of};
 ghost use Rattle.replica_node.specs.declared.node.Node.{Node};
@@ -56,8 +57,9 @@ ghost use Rattle.cron_serve.specs.declared.words.Request.{Request};
 ghost use Rattle.cron_serve.specs.declared.run_end.RunEnd.{RunEnd};
 
 /// **The report is promised.** If the program was asked for the report alone and ended with status 0, the input was read, it is a run with a
-/// table, and the sink gained the report of its launches: each stands there once, each due instant was launched or given up, no other
-/// instant of a crontab's job is there, and if grace lasts as long as the window, or the script has no command, each was launched.
+/// table, and the sink gained the report of its launches: each stands there once, each due instant, by the versions in force then, was
+/// launched or given up, no other instant of a crontab's job is there, and if grace lasts as long as the window, or the script has no
+/// command and no version is adopted, each was launched.
 pub fn a_report_tells_of_each_launch()
     ensures { (source source' : SourceView) (sink sink' notes notes' : SinkView) (status : ℕ)
         → EndsProgram (Request.Text (Output.Report false false)) source source' sink sink' notes notes' status → status ≡ 0
@@ -219,14 +221,14 @@ pub fn a_refusal_is_that_of_the_bytes()
         → old.left ≡ Some bytes → IsRefusedInput output bytes refusal }
 {}
 
-/// Of what the book of a run holds: no launch is held twice; each was started in the log under the table's first version, its instant had
-/// come when it was called, and its kind goes by that clock; and what an end says that takes effect is held. Nothing in the log is ignored
-/// but the no-ops.
+/// Of what the book of a run holds: no launch is held twice; each was started in the log, its instant had come when it was called, and its
+/// kind goes by that clock, both by the version in force at the start; and what an end says that takes effect is held. Nothing in the log
+/// is ignored but the no-ops.
 pub fn a_run_holds_each_launch_once()
     ensures once { (bytes : List ℕ) (table : Table) (book : BookState) (nodes : List (Node MemDisk)) (a b : SchedRow) → IsRunOf bytes table book nodes
         → Contains book.ledger.held a → Contains book.ledger.held b → a.name.job ≡ b.name.job → a.name.at ≡ b.name.at → a ≡ b }
     ensures started { (bytes : List ℕ) (table : Table) (book : BookState) (nodes : List (Node MemDisk)) (run : IsRunOf bytes table book nodes) (row : SchedRow)
-        → Contains book.ledger.held row → (backed : IsBacked table run.whole.log row) × (backed.version ≡ 0) }
+        → Contains book.ledger.held row → IsBacked table run.whole.log row }
     ensures ended { (bytes : List ℕ) (table : Table) (book : BookState) (nodes : List (Node MemDisk))
         (run : IsRunOf bytes table book nodes) (job : ℕ) (at : ℤ) (kind : Kind)
         → HasEnd table run.whole.log job at kind → IsHeld book.ledger.held job at kind }
@@ -234,32 +236,33 @@ pub fn a_run_holds_each_launch_once()
         → Contains run.whole.log entry → entry ≢ Noop → IsEffective table run.whole.log entry }
 {}
 
-/// Of a run each due instant of each job was started and has ended, and is held as its end says. One that no clock reading of the script's
-/// turns has passed is held as launched, and was called at that very instant. Where grace lasts as long as the window, each is held as
-/// launched.
+/// Of a run each due instant of each job, by the versions in force then, was started and has ended, and is held as its end says. One that
+/// no clock reading of the script's turns has passed is held as launched, and was called at that very instant. Where grace lasts as long
+/// as the window, each is held as launched.
 pub fn a_run_ends_each_due_instant()
     ensures ended { (bytes : List ℕ) (table : Table) (book : BookState) (nodes : List (Node MemDisk)) (run : IsRunOf bytes table book nodes) (job : ℕ) (at : ℤ)
-        → IsJobDue table 0 job at → HasStart table run.whole.log job at × (kind : Kind) × HasEnd table run.whole.log job at kind
+        → IsDueUnder table run.whole.adoptions job at → HasStart table run.whole.log job at × (kind : Kind) × HasEnd table run.whole.log job at kind
         × IsHeld book.ledger.held job at kind }
     ensures later { (bytes : List ℕ) (table : Table) (book : BookState) (nodes : List (Node MemDisk)) (run : IsRunOf bytes table book nodes) (job : ℕ) (at : ℤ)
-        → IsJobDue table 0 job at → AreTurnsBy at (script_turns run.whole.obeyed) → IsCalledAt book.ledger.held job at Launch at }
-    ensures all { (bytes : List ℕ) (table : Table) (book : BookState) (nodes : List (Node MemDisk)) (job : ℕ) (at : ℤ) → IsRunOf bytes table book nodes
-        → IsGraceLong table → IsJobDue table 0 job at → IsHeld book.ledger.held job at Launch }
+        → IsDueUnder table run.whole.adoptions job at → AreTurnsBy at (script_turns run.whole.obeyed)
+        → IsCalledAt book.ledger.held job at Launch at }
+    ensures all { (bytes : List ℕ) (table : Table) (book : BookState) (nodes : List (Node MemDisk)) (run : IsRunOf bytes table book nodes) (job : ℕ) (at : ℤ)
+        → IsGraceLong table → IsDueUnder table run.whole.adoptions job at → IsHeld book.ledger.held job at Launch }
 {}
 
 /// Of a run whose script has no command each due instant of a crontab's job is held as launched, and was called at that very instant.
-/// Where a job of an anacrontab may open on a date at an instant, by the launches that were called before, it is launched on that date and
-/// called at that instant. And nothing else is held.
+/// Where no version is adopted, and a job of an anacrontab may open on a date at an instant, by the launches that were called before, it is
+/// launched on that date and called at that instant. And then nothing else is held.
 pub fn a_run_without_commands_launches_each_due_instant()
     ensures each { (bytes : List ℕ) (table : Table) (book : BookState) (nodes : List (Node MemDisk)) (run : IsRunOf bytes table book nodes) (job : ℕ) (at : ℤ)
-        → run.run.commands ≡ [] → IsJobDue table 0 job at → IsCalledAt book.ledger.held job at Launch at }
+        → run.run.commands ≡ [] → IsDueUnder table run.whole.adoptions job at → IsCalledAt book.ledger.held job at Launch at }
     ensures each_date { (bytes : List ℕ) (table : Table) (book : BookState) (nodes : List (Node MemDisk))
         (run : IsRunOf bytes table book nodes) (job : ℕ) (now date : ℤ)
-        → run.run.commands ≡ [] → OpensBy table book.ledger.held job now date → IsCalledAt book.ledger.held job date Launch now }
+        → run.run.commands ≡ [] → run.whole.adoptions ≡ [] → OpensBy table book.ledger.held job now date → IsCalledAt book.ledger.held job date Launch now }
     ensures no_other { (bytes : List ℕ) (table : Table) (book : BookState) (nodes : List (Node MemDisk)) (run : IsRunOf bytes table book nodes) (row : SchedRow)
-        → run.run.commands ≡ [] → Contains book.ledger.held row → IsWanted table book.ledger.held row × (row.kind ≡ Launch) }
+        → run.run.commands ≡ [] → run.whole.adoptions ≡ [] → Contains book.ledger.held row → IsWanted table book.ledger.held row × (row.kind ≡ Launch) }
     ensures all { (bytes : List ℕ) (table : Table) (book : BookState) (nodes : List (Node MemDisk)) (run : IsRunOf bytes table book nodes)
-        → run.run.commands ≡ [] → LaunchesEachDue table book.ledger.held }
+        → run.run.commands ≡ [] → run.whole.adoptions ≡ [] → LaunchesEachDue table book.ledger.held }
 {}
 
 /// What a run leaves of its replicas: a node of each, by its number, which keeps what its replica keeps. What the files of its disk have
@@ -285,21 +288,23 @@ pub fn a_run_leaves_its_nodes()
 {}
 
 /// Of a run each job's starts are of rising instants, or dates; and of two launches of a job of an anacrontab the later is a period
-/// after the earlier: so many days, or in a later month or year. Where such a job may open on a date at an instant, by the launches that
-/// were called before, and no clock reading of the script's turns has passed it, the job is launched on that date and called at that
-/// instant, unless at an earlier instant it was started on a later date, or its launch on the date or a later one was called too late.
+/// after the earlier, by the version in force at its start: so many days, or in a later month or year. Where no version is adopted, and
+/// such a job may open on a date at an instant, by the launches that were called before, and no clock reading of the script's turns has
+/// passed it, the job is launched on that date and called at that instant, unless at an earlier instant it was started on a later date,
+/// or its launch on the date or a later one was called too late.
 pub fn a_run_keeps_dates_apart()
     ensures opened { (bytes : List ℕ) (table : Table) (book : BookState) (nodes : List (Node MemDisk))
         (run : IsRunOf bytes table book nodes) (job : ℕ) (now date : ℤ)
-        → OpensBy table book.ledger.held job now date → AreTurnsBy now (script_turns run.whole.obeyed)
+        → run.whole.adoptions ≡ [] → OpensBy table book.ledger.held job now date → AreTurnsBy now (script_turns run.whole.obeyed)
         → IsCalledAt book.ledger.held job date Launch now ⊎ IsBarred run.run.members table run.rows job now date }
     ensures rise { (bytes : List ℕ) (table : Table) (book : BookState) (nodes : List (Node MemDisk)) (run : IsRunOf bytes table book nodes) (job : ℕ)
         → (dates : List ℤ) × StartsOf table run.whole.log job dates × IsRising dates }
     ensures apart { (bytes : List ℕ) (table : Table) (book : BookState) (nodes : List (Node MemDisk))
-        (a b : SchedRow) (job : Job) (period : Period) (first last : ℕ)
-        → IsRunOf bytes table book nodes → Contains book.ledger.held a → Contains book.ledger.held b → a.name.job ≡ b.name.job
+        (run : IsRunOf bytes table book nodes) (a b : SchedRow) (version : ℕ) (job : Job) (period : Period) (first last : ℕ)
+        → Contains book.ledger.held a → Contains book.ledger.held b → a.name.job ≡ b.name.job
         → a.kind ≡ Launch → b.kind ≡ Launch → a.name.at <ℤ b.name.at
-        → slice_get table.jobs a.name.job ≡ Some job → job.kind ≡ Anacron period first last
+        → IsStartedUnder table run.whole.log version b.name.job b.name.at → job_of_version table version b.name.job ≡ Some job
+        → job.kind ≡ Anacron period first last
         → IsPeriodOver period a.name.at b.name.at }
 {}
 
@@ -318,7 +323,7 @@ pub fn a_made_run_is_played()
         → (table : Table) × (run : IsRunOf (made_text seed) table end.book end.nodes.items) × (run.run ≡ made_run seed) }
     ensures launched { (seed : ℕ) (source source' : SourceView) (sink sink' : SinkView) (end : RunEnd)
         → Ends (Output.Summary seed) source source' sink sink' end → (end.status ≡ 0) ⊎ (end.status ≡ 4)
-        → (table : Table) × IsTableOf (made_run seed) table × HoldsEachDue table end.book.ledger.held × HasOnlyDue table end.book.ledger.held }
+        → (table : Table) × IsTableOf (made_run seed) table × HoldsEachDue table [] end.book.ledger.held × HasOnlyDue table [] end.book.ledger.held }
     ensures unread { (seed : ℕ) (source source' : SourceView) (sink sink' : SinkView) (end : RunEnd)
         → Ends (Output.Summary seed) source source' sink sink' end → (end.status ≡ 0) ⊎ (end.status ≡ 4) → source' ≡ source }
     ensures summary { (seed : ℕ) (source source' : SourceView) (sink sink' : SinkView) (end : RunEnd)

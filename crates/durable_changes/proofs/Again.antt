@@ -52,7 +52,7 @@ is_coherent = record {
 }
 
 pub is_planned : IsPlanned no_jobs leader tick_now
-is_planned = (refl, ((λ job at may. nothing_found job may.is_row), (λ job at takes. nothing_found job takes.is_row)))
+is_planned = (refl, ((λ job at may. nothing_found job may.is_row), (λ job at takes. nothing_found job takes.is_row), (λ version takes. absurd (omega (arith, takes.own)))))
 
 pub votes_again : deltas_of (step first_of_three tick_now leader) ≡ Voted own_vote ∷ []
 unfolding step tick propose deltas_by votes_from vote_at

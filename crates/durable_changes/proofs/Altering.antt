@@ -11,7 +11,7 @@ use Rattle.paxos_base.specs.declared.durable.Delta.{Delta}
 use Rattle.paxos_base.specs.declared.durable.Delta.TheVariants as delta
 use Rattle.paxos_base.specs.declared.durable.Durable.{Durable}
 use Rattle.paxos_base.specs.declared.entry.Entry.{Entry}
-use Rattle.paxos_base.specs.declared.entry.Entry.TheVariants.{Noop, Start, End}
+use Rattle.paxos_base.specs.declared.entry.Entry.TheVariants.{Noop, Start, End, Table as TableEntry}
 use Rattle.paxos_base.specs.declared.entry.Vote.{Vote}
 use Rattle.paxos_base.specs.declared.rows.JobRow.{JobRow}
 use Rattle.paxos_base.proofs.PutLemmas.{at_put}
@@ -268,6 +268,7 @@ follow_alters : (self : Identity) (now : ℤ) (wanted : Intent) (ballot : ℕ) (
 unfolding deltas_by
 follow_alters self now (intent.Call job at kind) ballot best state anew = tt
 follow_alters self now (intent.Start job at) ballot best state anew = propose_alters self state ballot best (Start job at now) anew
+follow_alters self now (intent.Adopt version) ballot best state anew = propose_alters self state ballot best (TableEntry version now) anew
 follow_alters self now intent.Rest ballot best state anew = tt
 
 tick_alters : (self : Identity) (now : ℤ) (wanted : Intent) (state : State) (term : Term) → HasNoVoteIn state.kept (prefix_of state) term → FirstAlters state.kept (deltas_of (tick_of self now wanted state term))

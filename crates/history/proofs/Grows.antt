@@ -7,7 +7,7 @@ use Rattle.paxos_base.specs.Ballot.{member_of, round_of}
 use Rattle.paxos_base.specs.Members.{has_majority, only_member, with_member}
 use Rattle.paxos_base.specs.Vote.{vote_at, votes_from}
 use Rattle.paxos_base.specs.declared.entry.Entry.{Entry}
-use Rattle.paxos_base.specs.declared.entry.Entry.TheVariants.{Noop, Start, End}
+use Rattle.paxos_base.specs.declared.entry.Entry.TheVariants.{Noop, Start, End, Table as TableEntry}
 use Rattle.paxos_base.specs.declared.entry.Vote.{Vote}
 use Rattle.paxos_base.specs.declared.rows.JobRow.{JobRow}
 use Rattle.term_core.specs.Term.{is_fourth}
@@ -86,6 +86,8 @@ follow_grows : (most members : ℕ) (self : Identity) (now : ℤ) (wanted : Inte
 follow_grows most members self now (intent.Call job at kind) ballot best state low = (tt, tt)
 follow_grows most members self now (intent.Start job at) ballot best state low =
     propose_grows most members self (proposal ballot best (prefix_of state) (Start job at now)) low
+follow_grows most members self now (intent.Adopt version) ballot best state low =
+    propose_grows most members self (proposal ballot best (prefix_of state) (TableEntry version now)) low
 follow_grows most members self now intent.Rest ballot best state low = (tt, tt)
 
 tick_grows : (most members : ℕ) (self : Identity) (now : ℤ) (wanted : Intent) (state : State) (term : Term) → prefix_of state < most → AllGrow most members (tick_of self now wanted state term)

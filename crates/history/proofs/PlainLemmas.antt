@@ -7,7 +7,7 @@ use Rattle.std.proofs.lemmas.List.Elements.{Contains-append_cases}
 use Rattle.paxos_base.specs.Members.{has_majority, only_member, with_member}
 use Rattle.paxos_base.specs.Vote.{vote_at, votes_from}
 use Rattle.paxos_base.specs.declared.entry.Entry.{Entry}
-use Rattle.paxos_base.specs.declared.entry.Entry.TheVariants.{Noop, Start, End}
+use Rattle.paxos_base.specs.declared.entry.Entry.TheVariants.{Noop, Start, End, Table as TableEntry}
 use Rattle.paxos_base.specs.declared.entry.Vote.{Vote}
 use Rattle.paxos_base.specs.declared.rows.JobRow.{JobRow}
 use Rattle.cluster_sched.specs.declared.row.SchedRow.{SchedRow}
@@ -102,6 +102,7 @@ module _ (asks : Vote → Type 0) where
   follow_plain : (self : Identity) (now : ℤ) (wanted : Intent) (ballot : ℕ) (best : List Vote) (state : State) → RestPlain asks (follow_intent self now wanted ballot best state)
   follow_plain self now (intent.Call job at kind) ballot best state = tt
   follow_plain self now (intent.Start job at) ballot best state = propose_plain self (proposal ballot best (prefix_of state) (Start job at now))
+  follow_plain self now (intent.Adopt version) ballot best state = propose_plain self (proposal ballot best (prefix_of state) (TableEntry version now))
   follow_plain self now intent.Rest ballot best state = tt
 
   tick_plain : (self : Identity) (now : ℤ) (wanted : Intent) (state : State) (term : Term) → RestPlain asks (tick_of self now wanted state term)

@@ -135,7 +135,7 @@ may_tick = (
     member = lit< tt;
     runs = refl;
     event_of = (record { since = grind arith; before = grind arith }, record { rows = first_rows no_jobs; intent = intent.Rest }, refl);
-    planned = (refl, rests_without_jobs no_jobs (first_rows no_jobs) (pos 0) refl);
+    planned = (refl, rests_without_jobs no_jobs (first_rows no_jobs) (pos 0) refl refl);
   },
   record { letters = (record { to = refl; spells = lead_spells }, tt); votes = refl; learnt = refl; call = refl },
 )

@@ -26,11 +26,12 @@ rows_fit table rows stand row has =
     let at = place_of rows row has in
     fits_there table rows at.0 row stand at.1
 
--- a table without jobs asks for nothing
-pub rests_without_jobs : (table : Table) (rows : List JobRow) (now : ℤ) → length table.jobs ≡ 0 → IsIntent table rows now Rest
-rests_without_jobs table rows now none = (
+-- a table without jobs and with one version asks for nothing
+pub rests_without_jobs : (table : Table) (rows : List JobRow) (now : ℤ) → length table.jobs ≡ 0 → length table.later ≡ 0 → IsIntent table rows now Rest
+rests_without_jobs table rows now none one = (
   (λ job at may. none_there job may.known),
   (λ job at takes. none_there job takes.known),
+  (λ version takes. absurd (omega (arith, takes.known, takes.next, one))),
 )
   where
     none_there : (job : ℕ) → job < length table.jobs → ⊥

@@ -9,7 +9,7 @@ use Rattle.due_set.specs.Table.{Table, IsNextDue, IsSound, is_by_period, version
 use Rattle.due_set.proofs.DecideLemmas.{IsDecided, decided_both, decided_le, decided_like}
 use Rattle.due_set.proofs.ExistLemmas.{next_or_none}
 use Rattle.due_set.proofs.OpenLemmas.{open_or_not}
-use Rattle.launch_machine.specs.Clerk.{AreEndedBy, IsBy, MayStart, NoStart, TakesStart, TakesTable, in_force, later_of}
+use Rattle.launch_machine.specs.Clerk.{AreEndedBy, IsBy, IsEndedRow, MayStart, NoStart, TakesStart, TakesTable, in_force, later_of}
 use Rattle.launch_machine.specs.declared.force.InForce.{InForce}
 use Rattle.launch_machine.proofs.MachineLemmas.{same_row}
 
@@ -122,9 +122,9 @@ decided_passed table now job row = elim (cases_lt job (length table.jobs)) [
 
 decided_ended : (table : Table) (rows : List JobRow) (now : ℤ) → IsDecided (AreEndedBy table rows now)
 decided_ended table rows now =
-    decided_like _ (AreEndedBy table rows now) (λ both. record { closed = both.0; passed = both.1 }) (λ ended. (ended.closed, ended.passed))
-    (decided_both _ _ (decided_rows (λ k row. row.open_now ≡ None) (λ k row. decided_closed row.open_now) rows)
-    (decided_rows (λ job row. job < length table.jobs → is_by_period table job ≡ false → IsBy now row.cursor) (decided_passed table now) rows))
+    decided_rows (IsEndedRow table now) (λ job row.
+    decided_like _ (IsEndedRow table now job row) (λ both. record { closed = both.0; passed = both.1 }) (λ ended. (ended.closed, ended.passed))
+    (decided_both _ _ (decided_closed row.open_now) (decided_passed table now job row))) rows
 
 -- ---- the adoption
 
@@ -137,10 +137,11 @@ decided_below a b = elim (cases_lt a b) [ inl lt ↦ inl lt | inr ge ↦ inr (λ
 pub takes_table_or_not : (table : Table) → IsSound table → (rows : List JobRow) (version : ℕ) (now : ℤ) → IsDecided (TakesTable table rows version now)
 takes_table_or_not table sound rows version now =
     decided_like _ (TakesTable table rows version now)
-    (λ all. record { next = all.0; known = all.1.0; come = all.1.1.0; since = all.1.1.1.0; ended = all.1.1.1.1.0; no_start = all.1.1.1.1.1 })
-    (λ takes. (takes.next, (takes.known, (takes.come, (takes.since, (takes.ended, takes.no_start))))))
+    (λ all. record { own = all.0; next = all.1.0; known = all.1.1.0; come = all.1.1.1.0; since = all.1.1.1.1.0; ended = all.1.1.1.1.1.0; no_start = all.1.1.1.1.1.1 })
+    (λ takes. (takes.own, (takes.next, (takes.known, (takes.come, (takes.since, (takes.ended, takes.no_start)))))))
+    (decided_both _ _ (decided_below (length table.jobs) (length rows))
     (decided_both _ _ (decided_number version (suc (in_force table rows).version))
     (decided_both _ _ (decided_below version (version_count table))
     (decided_both _ _ (decided_le (version_from table version) now)
     (decided_both _ _ (decided_by now (in_force table rows).since)
-    (decided_both _ _ (decided_ended table rows now) (decided_no_start table sound rows now))))))
+    (decided_both _ _ (decided_ended table rows now) (decided_no_start table sound rows now)))))))

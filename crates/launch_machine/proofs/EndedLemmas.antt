@@ -1,14 +1,13 @@
 -- Whether the rows have ended, row by row.
-use Rattle.std.proofs.Common.{◌≡◌, ℕ, ◌+◌, ◌<◌, inl, inr, ◌↔◌, Bool, IsTrue, refl, true, false, List, length, Option, None, Some, ℤ, sym, subst, arith}
-use Rattle.std.specs.Prelude.{IfNone, IfSome, is_some, not, slice_get}
-use Rattle.std.proofs.lemmas.Bool.{cases_eq}
+use Rattle.std.proofs.Common.{◌≡◌, ℕ, suc, ◌+◌, ◌<◌, inl, inr, ◌↔◌, Bool, IsTrue, refl, true, false, List, length, Option, None, Some, ℤ, sym, ap, subst, arith, if◌then◌else◌}
+use Rattle.std.specs.Prelude.{IfNone, IfSome, is_some, nat_lt, not, slice_get}
+use Rattle.std.proofs.lemmas.Bool.{cases_eq, lt-ltb, ltb-true}
 use Rattle.std.proofs.lemmas.Option.{slice_get_within}
 use Rattle.paxos_base.specs.Rows.{RowsStand}
 use Rattle.paxos_base.specs.declared.rows.JobRow.{JobRow}
-use Rattle.due_set.specs.Table.{Table}
-use Rattle.launch_machine.specs.Clerk.{AreEndedBy, NoStart, table_size}
+use Rattle.due_set.specs.Table.{Table, version_count}
+use Rattle.launch_machine.specs.Clerk.{AreEndedBy, IsEndedRow, NoStart, in_force, next_version, table_size}
 use Rattle.launch_machine.specs.Intent.{IsFirstStart}
-use Rattle.launch_machine.specs.Machine.{IsEndedRow}
 use Rattle.launch_machine.proofs.MachineLemmas.{ends_idle, same_row}
 
 -- the first rows are
@@ -26,18 +25,33 @@ ended_next table rows now count row known is_row is job other below at_row = eli
 
 -- so are all, since the table's own is closed
 pub ended_all : (table : Table) (rows : List JobRow) (now : ℤ) → RowsStand rows (table_size table) → AreEndedBelow table rows now (length table.jobs) → AreEndedBy table rows now
-ended_all table rows now stand known = record {
-  closed = λ job row is. elim (cases_eq job (length table.jobs)) [
-    | inl own ↦ ends_idle rows (table_size table) row stand (subst (λ (k : ℕ). slice_get rows k ≡ Some row) own is)
-    | inr other ↦ (known job row (omega (arith, slice_get_within rows job row is, stand.numbered.count, other)) is).closed
-  ];
-  passed = λ job row is below plain. (known job row below is).passed plain;
-}
+ended_all table rows now stand known job row is = elim (cases_eq job (length table.jobs)) [
+  | inr other ↦ known job row (omega (arith, slice_get_within rows job row is, stand.numbered.count, other)) is
+  | inl own ↦ record {
+    closed = ends_idle rows (table_size table) row stand (subst (λ (k : ℕ). slice_get rows k ≡ Some row) own is);
+    passed = λ below. absurd (omega (arith, below, own));
+  }
+]
 
--- where all are, so is each
-pub ended_row : (table : Table) (rows : List JobRow) (now : ℤ) (job : ℕ) (row : JobRow) → AreEndedBy table rows now → job < length table.jobs → slice_get rows job ≡ Some row
-    → IsEndedRow table now job row
-ended_row table rows now job row ended below is = record { closed = ended.closed job row is; passed = ended.passed job row is below }
+-- the version that comes next is the one after that in force, and the table has it
+pub next_says : (table : Table) (rows : List JobRow) (version : ℕ) → next_version table rows ≡ Some version
+    → (version ≡ suc (in_force table rows).version) × (version < version_count table)
+next_says table rows version is = by (nat_lt (suc (in_force table rows).version) (version_count table)) refl is
+  where
+    by : (has : Bool) → nat_lt (suc (in_force table rows).version) (version_count table) ≡ has
+        → (if has then Some (suc (in_force table rows).version) else None) ≡ Some version
+        → (version ≡ suc (in_force table rows).version) × (version < version_count table)
+    by true has same =
+        let number : suc (in_force table rows).version ≡ version = cc in
+        (sym number, subst (λ (v : ℕ). v < version_count table) number (ltb-true (suc (in_force table rows).version) (version_count table) has))
+    by false has same = absurd cc
+
+-- and none else does
+pub next_is : (table : Table) (rows : List JobRow) (version : ℕ) → version ≡ suc (in_force table rows).version → version < version_count table
+    → next_version table rows ≡ Some version
+next_is table rows version is has =
+    let below : suc (in_force table rows).version < version_count table = subst (λ (v : ℕ). v < version_count table) is has in
+    rw (lt-ltb (suc (in_force table rows).version) (version_count table) below) (ap Some (sym is))
 
 -- where no first start is found none would take effect, and the other way round
 pub none_found : (table : Table) (rows : List JobRow) (now : ℤ) (found : Option (ℕ × ℤ)) (none : Bool) → is_some found ≡ not none

@@ -6,10 +6,10 @@ use Rattle.paxos_base.specs.declared.entry.Kind.TheVariants as kind
 use Rattle.paxos_base.specs.declared.rows.JobRow.{JobRow}
 use Rattle.due_set.specs.Table.{Table}
 use Rattle.launch_machine.specs.Answers.{IsCallKind, IsIntent}
-use Rattle.launch_machine.specs.Clerk.{TakesStart, in_force}
+use Rattle.launch_machine.specs.Clerk.{TakesStart, TakesTable, in_force}
 use Rattle.launch_machine.specs.Intent.{IsFirstCall, IsFirstStart, MayCall}
 use Rattle.launch_machine.specs.declared.machine.Intent.{Intent}
-use Rattle.launch_machine.specs.declared.machine.Intent.TheVariants.{Call, Start, Rest}
+use Rattle.launch_machine.specs.declared.machine.Intent.TheVariants.{Call, Start, Adopt, Rest}
 use Rattle.launch_machine.proofs.MachineLemmas.{TakesStart-same}
 
 pub same_some : {X : Type 0} (a b : X) → Some a ≡ Some b → a ≡ b
@@ -58,12 +58,19 @@ one_intent table rows now (Call job at sort) (Call another since other) (call, k
     let kinds = same_kind table rows now job at sort other call.may kind_is here in
     rw (same.0, same.1, kinds) refl
 one_intent table rows now (Call job at sort) (Start another since) call start = absurd (start.0 job at call.0.may)
+one_intent table rows now (Call job at sort) (Adopt version) call adopt = absurd (adopt.0 job at call.0.may)
 one_intent table rows now (Call job at sort) Rest call rest = absurd (rest.0 job at call.0.may)
 one_intent table rows now (Start job at) (Call another since other) start call = absurd (start.0 another since call.0.may)
 one_intent table rows now (Start job at) (Start another since) start again =
     let same = first_start table rows now job another at since start.1 again.1 in
     rw (same.0, same.1) refl
+one_intent table rows now (Start job at) (Adopt version) start adopt = absurd (adopt.1.no_start job at start.1.takes)
 one_intent table rows now (Start job at) Rest start rest = absurd (rest.1 job at start.1.takes)
+one_intent table rows now (Adopt version) (Call another since other) adopt call = absurd (adopt.0 another since call.0.may)
+one_intent table rows now (Adopt version) (Start another since) adopt start = absurd (adopt.1.no_start another since start.1.takes)
+one_intent table rows now (Adopt version) (Adopt other) adopt again = ap Adopt (adopt.1.next ∙ sym again.1.next)
+one_intent table rows now (Adopt version) Rest adopt rest = absurd (rest.2 version adopt.1)
 one_intent table rows now Rest (Call another since other) rest call = absurd (rest.0 another since call.0.may)
 one_intent table rows now Rest (Start another since) rest start = absurd (rest.1 another since start.1.takes)
+one_intent table rows now Rest (Adopt version) rest adopt = absurd (rest.2 version adopt.1)
 one_intent table rows now Rest Rest rest again = refl

@@ -1,11 +1,13 @@
 pub mod AdoptionLemmas
 pub mod ClerkLemmas
+pub mod DueListLemmas
 pub mod EndLemmas
 pub mod EndedLemmas
 pub mod ExistLemmas
 pub mod IntentLemmas
 pub mod MachineLemmas
 pub mod NextLemmas
+pub mod SomeAdoption
 pub mod StartLemmas
 pub mod UnderLemmas
 pub mod VersionRows

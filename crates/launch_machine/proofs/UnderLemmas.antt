@@ -189,7 +189,7 @@ rest_table table rows version job cursor since row now later adoptions plain ver
   sound = λ t h. subst (λ (v : ℕ). IsJobDue table v job t) (next_version t (rest.later t h).1) (rest.sound t h);
   complete = λ t last h due after le. by_lt_z now t
       (λ lt. rest.complete t last h (subst (λ (v : ℕ). IsJobDue table v job t) (sym (next_version t lt)) due) (after.0, lt) le)
-      (λ ge. absurd (nothing_due table rows job row now below is_row (takes.ended.closed job row is_row) (takes.no_start job) t
+      (λ ge. absurd (nothing_due table rows job row now below is_row (takes.ended job row is_row).closed (takes.no_start job) t
       (subst (λ (v : ℕ). IsJobDue table v job t) (sym version_is) (at_once table version job (now ∷ adoptions) t (none_sooner t ge) due))
       (subst (λ (c : Option ℤ). IsAfter (later_of c (in_force table rows).since) t) (sym cursor_is)
       (subst (λ (s : Option ℤ). IsAfter (later_of cursor s) t) (sym since_is) (after_both cursor since t after.0 after.1))) ge));
@@ -203,7 +203,7 @@ rest_table table rows version job cursor since row now later adoptions plain ver
     since_by = subst (IsBy now) since_is takes.since
 
     cursor_by : IsBy now cursor
-    cursor_by = subst (IsBy now) cursor_is (takes.ended.passed job row is_row below plain.by_name)
+    cursor_by = subst (IsBy now) cursor_is ((takes.ended job row is_row).passed below plain.by_name)
 
     sooner : (t : ℤ) → now <ℤ t → (instant : Option ℤ) → IsBy now instant → IsAfter instant t
     sooner t lt None by = tt

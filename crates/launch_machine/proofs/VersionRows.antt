@@ -149,7 +149,7 @@ adopted_stands table rows version now stand takes =
       ends = λ row is.
           let row_is : new ≡ row = set_here rows own row new is in
           subst (λ (r : JobRow). is_table_row (length table.later) r ≡ true) row_is
-          (adopted_is (length table.later) version now old (takes.ended.closed own old here) (stand.ends old here) known (in_force table rows).version takes.next);
+          (adopted_is (length table.later) version now old (takes.ended own old here).closed (stand.ends old here) known (in_force table rows).version takes.next);
     }
 
 pub Applies-stands : (table : Table) (rows : List JobRow) (entry : Entry) (middle : List JobRow) → RowsStand rows (table_size table) → Applies table rows entry middle
@@ -211,7 +211,7 @@ own_none table rows starts stand known =
 adopted_closed : (table : Table) (rows : List JobRow) (version : ℕ) (now : ℤ) → TakesTable table rows version now → (job : ℕ) (row : JobRow)
     → slice_get (with_row (adopted_row version now) rows (length table.jobs)) job ≡ Some row → row.open_now ≡ None
 adopted_closed table rows version now takes job row is = elim (cases_eq job (length table.jobs)) [
-  | inr other ↦ takes.ended.closed job row (sym (set_there rows (length table.jobs) job (adopted_row version now old) other) ∙ is)
+  | inr other ↦ (takes.ended job row (sym (set_there rows (length table.jobs) job (adopted_row version now old) other) ∙ is)).closed
   | inl same ↦
       let row_is : adopted_row version now old ≡ row =
       set_here rows (length table.jobs) row (adopted_row version now old) (subst (λ (k : ℕ). slice_get (with_row (adopted_row version now) rows (length table.jobs)) k ≡ Some row) same is) in
@@ -222,7 +222,7 @@ adopted_closed table rows version now takes job row is = elim (cases_eq job (len
     old = get_or rows (length table.jobs) (fresh_row (length table.jobs))
 
     own_closed : (found : Option JobRow) → slice_get rows (length table.jobs) ≡ found → old.open_now ≡ None
-    own_closed (Some here) is = ap (λ (r : JobRow). r.open_now) (get_or_from_slice_get rows (length table.jobs) here (fresh_row (length table.jobs)) is) ∙ takes.ended.closed (length table.jobs) here is
+    own_closed (Some here) is = ap (λ (r : JobRow). r.open_now) (get_or_from_slice_get rows (length table.jobs) here (fresh_row (length table.jobs)) is) ∙ (takes.ended (length table.jobs) here is).closed
     own_closed None none = ap (λ (r : JobRow). r.open_now) (sym (unwrap_or-slice_get rows (length table.jobs) (fresh_row (length table.jobs))) ∙ ap (λ o. unwrap_or o (fresh_row (length table.jobs))) none)
 
 -- once a version is adopted, and the starts are set anew by it, the machine is one of the table

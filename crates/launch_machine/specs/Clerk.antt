@@ -1,5 +1,5 @@
 -- What the entries of the log do to the launch table: one clerk, who goes over one list.
-use Rattle.std.specs.Prelude.{◌≡◌, ◌⊎◌, ⊤, ℕ, suc, ◌+◌, ◌<◌, List, [], ◌∷◌, Option, None, Some, false, ℤ, ◌≤ℤ◌, length, slice_get, slice_set, slice_index_or}
+use Rattle.std.specs.Prelude.{◌≡◌, ◌⊎◌, ⊤, ℕ, suc, ◌+◌, ◌<◌, nat_lt, if◌then◌else◌, List, [], ◌∷◌, Option, None, Some, false, ℤ, ◌≤ℤ◌, length, slice_get, slice_set, slice_index_or}
 use Rattle.std.specs.Int.{int_max}
 use Rattle.paxos_base.specs.declared.entry.Entry.{Entry}
 use Rattle.paxos_base.specs.declared.entry.Entry.TheVariants.{Noop, Start, End, Table as TableEntry}
@@ -31,6 +31,11 @@ in_force table rows = force_of (slice_index_or rows (length table.jobs) (fresh_r
 -- at first the first version is in force, since no instant
 abbrev pub first_force : InForce
 first_force = record { version = 0; since = None }
+
+-- the version that comes next, where the table has one
+abbrev pub next_version : Table → List JobRow → Option ℕ
+next_version table rows =
+    if nat_lt (suc (in_force table rows).version) (version_count table) then Some (suc (in_force table rows).version) else None
 
 -- the later of two instants, where there are any
 abbrev pub later_of : Option ℤ → Option ℤ → Option ℤ
@@ -70,20 +75,30 @@ abbrev pub IsBy : ℤ → Option ℤ → Type 0
 IsBy now None = ⊤
 IsBy now (Some instant) = instant ≤ℤ now
 
--- No launch is open, and of the jobs that run by their due instants none was started on a later one.
-pub record AreEndedBy (table : Table) (rows : List JobRow) (now : ℤ) : Type 0 where
-  pub closed : (job : ℕ) (row : JobRow) → slice_get rows job ≡ Some row → row.open_now ≡ None
-  pub passed : (job : ℕ) (row : JobRow) → slice_get rows job ≡ Some row → job < length table.jobs → is_by_period table job ≡ false → IsBy now row.cursor
+-- the row is closed, and a launch of its job, if that runs by its due instants, isn't later
+pub record IsEndedRow (table : Table) (now : ℤ) (job : ℕ) (row : JobRow) : Type 0 where
+  pub closed : row.open_now ≡ None
+  pub passed : job < length table.jobs → is_by_period table job ≡ false → IsBy now row.cursor
+
+-- no launch is open, and of the jobs that run by their due instants none was started on a later one
+abbrev pub AreEndedBy : Table → List JobRow → ℤ → Type 0
+AreEndedBy table rows now = (job : ℕ) (row : JobRow) → slice_get rows job ≡ Some row → IsEndedRow table now job row
 
 -- A version takes effect: it is the next one that the table has, and its instant has come; it comes no sooner than the version before
--- it, and than each launch of a job that runs by its due instants; no launch is open, and none may be started then.
+-- it, and than each launch of a job that runs by its due instants; no launch is open, and none may be started then. The table's own
+-- row, which takes it down, is there.
 pub record TakesTable (table : Table) (rows : List JobRow) (version : ℕ) (now : ℤ) : Type 0 where
+  pub own : length table.jobs < length rows
   pub next : version ≡ suc (in_force table rows).version
   pub known : version < version_count table
   pub come : version_from table version ≤ℤ now
   pub since : IsBy now (in_force table rows).since
   pub ended : AreEndedBy table rows now
   pub no_start : NoStart table rows now
+
+-- no version would be adopted
+abbrev pub NoTable : Table → List JobRow → ℤ → Type 0
+NoTable table rows now = (version : ℕ) → TakesTable table rows version now → ⊥
 
 -- an entry takes effect; a no-op never does
 abbrev pub TakesEffect : Table → List JobRow → Entry → Type 0

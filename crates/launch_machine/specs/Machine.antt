@@ -7,9 +7,9 @@ use Rattle.paxos_base.specs.declared.entry.Entry.{Entry}
 use Rattle.paxos_base.specs.declared.entry.Entry.TheVariants.{Noop, Start, End, Table as TableEntry}
 use Rattle.paxos_base.specs.declared.rows.JobRow.{JobRow}
 use Rattle.due_set.specs.Calls.{HasCome}
-use Rattle.due_set.specs.Table.{Job, Table, IsJobIn, is_by_period}
+use Rattle.due_set.specs.Table.{Job, Table, IsJobIn}
 use Rattle.min_tree.specs.Least.{IsAtMost}
-use Rattle.launch_machine.specs.Clerk.{IsBy, MayStart, in_force, table_size}
+use Rattle.launch_machine.specs.Clerk.{MayStart, in_force, table_size}
 use Rattle.launch_machine.specs.declared.force.InForce.{InForce}
 
 -- the rows of the launch table; beside each the first instant at which its job may be started, and one before which its launch
@@ -60,11 +60,6 @@ pub record StandsFor (table : Table) (machine : Launches) : Type 0 where
   pub rows : RowsStand machine.rows (table_size table)
   pub starts : AreNextStarts table machine.rows machine.starts
   pub calls : AreCalls table machine.rows machine.calls
-
--- the row is closed, and a launch of its job, if that runs by its due instants, isn't later
-pub record IsEndedRow (table : Table) (now : ℤ) (job : ℕ) (row : JobRow) : Type 0 where
-  pub closed : row.open_now ≡ None
-  pub passed : is_by_period table job ≡ false → IsBy now row.cursor
 
 -- the row's counts can rise
 abbrev pub CanRise : List JobRow → ℕ → Type 0

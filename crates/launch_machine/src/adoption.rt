@@ -1,11 +1,11 @@
 //! When the next version of a table is adopted.
-ghost use Rattle.std.specs.Prelude.{◌↔◌, ◌<◌, length, IsTrue};
+ghost use Rattle.std.specs.Prelude.{◌≡◌, ◌↔◌, ◌<◌, length, IfNone, IfSome, IsTrue, Some};
 ghost use Rattle.paxos_base.specs.Rows.{RowsStand};
-ghost use Rattle.launch_machine.specs.Clerk.{AreEndedBy, IsBy, TakesTable, table_size};
-ghost use Rattle.launch_machine.specs.Machine.{AreNextStarts, IsEndedRow};
+ghost use Rattle.launch_machine.specs.Clerk.{AreEndedBy, IsBy, IsEndedRow, NoStart, NoTable, TakesTable, next_version, table_size};
+ghost use Rattle.launch_machine.specs.Machine.{AreNextStarts};
 
 use crate::choice::first_start;
-use crate::force::in_force;
+use crate::force::{in_force, next_version};
 use due_set::JobTable;
 use min_tree::LeastTree;
 use paxos_base::JobRow;
@@ -42,6 +42,20 @@ fn are_ended_by(rows: &[JobRow], table: &JobTable, now: i64) -> bool
     true
 }
 
+// Whether the version that comes next may be adopted now, where no start would take effect.
+fn has_come(rows: &[JobRow], table: &JobTable, version: u32, now: i64) -> bool
+    requires stands { RowsStand rows.now (table_size table.now) }
+    requires next { next_version table.now rows.now ≡ Some version }
+    ensures comes { IsTrue result → NoStart table.now rows.now now → TakesTable table.now rows.now version now }
+    ensures waits { TakesTable table.now rows.now version now → IsTrue result }
+{
+    let since = in_force(rows, table).since;
+    if table.version_from(version).0 > now || !is_by(now, since) {
+        return false;
+    }
+    are_ended_by(rows, table, now)
+}
+
 /// Whether a version of the table may be adopted now.
 pub fn takes_table(
     rows: &[JobRow],
@@ -54,15 +68,26 @@ pub fn takes_table(
     requires starts { AreNextStarts table.now rows.now starts.now }
     ensures { IsTrue result ↔ TakesTable table.now rows.now version now }
 {
-    let force = in_force(rows, table);
-    if version >= table.versions() || version != force.version + 1 {
+    if next_version(rows, table) != Some(version) {
         return false;
     }
-    if table.version_from(version).0 > now || !is_by(now, force.since) {
-        return false;
-    }
-    if !are_ended_by(rows, table, now) {
+    if !has_come(rows, table, version, now) {
         return false;
     }
     first_start(rows, starts, table, Minute(now)).is_none()
+}
+
+/// The version that may be adopted now, if there is one, where no start would take effect.
+pub fn version_to_adopt(rows: &[JobRow], table: &JobTable, now: Minute) -> Option<u32>
+    requires stands { RowsStand rows.now (table_size table.now) }
+    requires none { NoStart table.now rows.now now.0 }
+    ensures found { IfSome result (λ version. TakesTable table.now rows.now version now.0) }
+    ensures none { IfNone result (NoTable table.now rows.now now.0) }
+{
+    let version = next_version(rows, table)?;
+    if has_come(rows, table, version, now.0) {
+        Some(version)
+    } else {
+        None
+    }
 }

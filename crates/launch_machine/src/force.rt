@@ -2,7 +2,7 @@
 ghost use Rattle.std.specs.Prelude.{◌≡◌, ◌<◌};
 ghost use Rattle.paxos_base.specs.Rows.{RowsStand};
 ghost use Rattle.due_set.specs.Table.{version_count};
-ghost use Rattle.launch_machine.specs.Clerk.{in_force, later_of, table_size};
+ghost use Rattle.launch_machine.specs.Clerk.{in_force, later_of, next_version, table_size};
 
 use due_set::JobTable;
 use paxos_base::JobRow;
@@ -26,6 +26,20 @@ pub fn in_force(rows: &[JobRow], table: &JobTable) -> InForce
     InForce {
         version: own.launched,
         since: own.cursor,
+    }
+}
+
+/// The version that comes next, if the table has one.
+pub fn next_version(rows: &[JobRow], table: &JobTable) -> Option<u32>
+    requires { RowsStand rows.now (table_size table.now) }
+    ensures { result ≡ next_version table.now rows.now }
+{
+    let versions = table.versions();
+    let version = in_force(rows, table).version;
+    if version + 1 < versions {
+        Some(version + 1)
+    } else {
+        None
     }
 }
 

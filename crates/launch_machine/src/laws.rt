@@ -70,6 +70,18 @@ pub fn entries_adopt_one_list_of_versions()
         → IsClerkOf table entries rows → AdoptionsOf table entries instants → (in_force table rows).version ≡ length instants }
 {}
 
+/// There are a table and a list of entries that adopt a version.
+pub fn a_version_may_be_adopted()
+    ensures { (table : Table) × (entries : List Entry) × (now : ℤ)
+        × IsSound table × AdoptionsOf table entries (now ∷ []) }
+{}
+
+/// Each job has a list of its due instants, whenever the versions of its table are adopted.
+pub fn each_job_has_due_instants_under()
+    ensures { (table : Table) → IsSound table → (adoptions : List ℤ) (job : ℕ)
+        → (dues : List ℤ) × IsListUnder table adoptions job dues }
+{}
+
 /// The instants of a job's starts that take effect, or their dates, rise; where it runs by its due instants they are
 /// the first of its due instants by the versions in force then, none left out.
 pub fn starts_come_in_order()

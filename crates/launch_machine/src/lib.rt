@@ -3,8 +3,9 @@
 //! is open and none may be started then, and no sooner than the version before it and each launch of a job that runs
 //! by its due instants (`TakesTable`); from then on jobs are started by it, at due instants that are later than its
 //! adoption, and their launches are called by it. `choose` gives the first open launch that may be called, or else
-//! the first start that would take effect, or else rests (`IsIntent`): it adopts no version. `next_start` is the first
-//! instant at which a start takes effect (`IsNextStart`).
+//! the first start that would take effect, or else the next version if it may be adopted, or else rests (`IsIntent`).
+//! `next_start` is the first instant at which a start takes effect (`IsNextStart`), and `next_version_from` that from
+//! which the next version may be adopted.
 //!
 //! Each list of entries leaves one launch table (`entries_leave_one_table`), adopts one list of versions, each the one
 //! after that in force (`entries_adopt_one_list_of_versions`), and has of each job one list of starts and one count of
@@ -28,9 +29,10 @@ mod row;
 pub use force::InForce;
 pub use laws::{
     a_job_has_one_count_of_ends, a_job_has_one_list_of_starts,
-    a_name_without_a_slash_runs_by_instants, cursors_rise, ends_are_counted,
-    entries_adopt_one_list_of_versions, entries_leave_one_table, one_entry_is_one_step,
-    one_launch_may_be_started, starts_come_in_order,
+    a_name_without_a_slash_runs_by_instants, a_version_may_be_adopted, cursors_rise,
+    each_job_has_due_instants_under, ends_are_counted, entries_adopt_one_list_of_versions,
+    entries_leave_one_table, one_entry_is_one_step, one_launch_may_be_started,
+    starts_come_in_order,
 };
 pub use machine::{Effect, Intent, Machine};
 pub use row::table_size;

@@ -5,11 +5,11 @@ ghost use Rattle.due_set.specs.Table.{Table, IsSound};
 ghost use Rattle.launch_machine.specs.Answers.{IsEffect, IsIntent};
 ghost use Rattle.launch_machine.specs.Clerk.{Applies, TakesTable, adopted_row, first_rows, table_size, with_row};
 ghost use Rattle.launch_machine.specs.Machine.{CanCount, CanRise, StandsFor};
-ghost use Rattle.launch_machine.specs.Next.{IsNextStart, StartsNoMore};
+ghost use Rattle.launch_machine.specs.Next.{IsNextStart, StartsNoMore, next_version_from};
 
-use crate::adoption::takes_table;
+use crate::adoption::{takes_table, version_to_adopt};
 use crate::choice::{call_kind, first_call, first_start};
-use crate::force::{InForce, in_force};
+use crate::force::{InForce, in_force, next_version};
 use crate::next::{call_beside, calls_of, set_starts, start_beside, starts_of, takes_start};
 use crate::row;
 use crate::row::table_size;
@@ -41,6 +41,8 @@ pub enum Intent {
     Call { job: u32, at: i64, kind: Kind },
     /// Start the job's launch of `at`.
     Start { job: u32, at: i64 },
+    /// Adopt this version of the table.
+    Adopt { version: u32 },
     /// Nothing for now.
     Rest,
 }
@@ -145,6 +147,15 @@ impl Machine {
             Some(first) => Some(Minute(first)),
             None => None,
         }
+    }
+
+    /// The instant from which the next version of the table may be adopted, or `None` where there is none left.
+    pub fn next_version_from(&self, table: &JobTable) -> Option<Minute>
+        requires { StandsFor table.now self.now }
+        ensures { result ≡ next_version_from table.now self.now.rows }
+    {
+        let version = next_version(&self.rows, table)?;
+        Some(table.version_from(version))
     }
 
     /// Applies an entry of the log.
@@ -254,8 +265,11 @@ impl Machine {
             let kind = call_kind(table, version, job, at, now);
             return Intent::Call { job, at, kind };
         }
-        match first_start(&self.rows, &self.starts, table, now) {
-            Some((job, at)) => Intent::Start { job, at },
+        if let Some((job, at)) = first_start(&self.rows, &self.starts, table, now) {
+            return Intent::Start { job, at };
+        }
+        match version_to_adopt(&self.rows, table, now) {
+            Some(version) => Intent::Adopt { version },
             None => Intent::Rest,
         }
     }

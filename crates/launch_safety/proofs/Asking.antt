@@ -61,9 +61,10 @@ pub record AsksIn (n : ℕ) (table : Table) (book : List Row) (turn : Turn) (slo
   pub launch_is : IsLaunchTable table (state_before n table book who) launch
   pub asks : IsIntent table launch now wanted
 
--- it asks for the start; of another entry nothing is said
+-- it asks for the start or the adoption; of another entry nothing is said
 abbrev pub AsksEntry : ℕ → Table → List Row → Turn → ℕ → Entry → Type 0
 AsksEntry n table book turn slot (Start job at now) = AsksIn n table book turn slot now (intent.Start job at)
+AsksEntry n table book turn slot (TableEntry version now) = AsksIn n table book turn slot now (intent.Adopt version)
 AsksEntry n table book turn slot entry = Unit {0}
 
 -- a cause whose event is a tick ticks at its instant
@@ -130,11 +131,9 @@ module _ (n : ℕ) (table : Table) (book : List Row) (few : n ≤ 7) (legal : Is
 
   -- what is offered is asked for in the turn
   module _ (turn : Turn) (of : turn_of turn ≡ Some who) (reads : (now : ℤ) → TicksAt now cause → ReadsAt now turn) where
-    ticked_in : (slot : ℕ) (entry : Entry) → prefix_of state ≡ slot → IsTicked event entry → AsksEntry n table book turn slot entry
-    ticked_in slot Noop learned ticked = tt
-    ticked_in slot (TableEntry version now) learned ticked = tt
-    ticked_in slot (End job at kind) learned ticked = tt
-    ticked_in slot (Start job at now) learned (plan, is, wants) =
+    wanted_in : (slot : ℕ) (now : ℤ) (plan : Plan) (wanted : Intent) → prefix_of state ≡ slot → event ≡ Tick now plan → plan.intent ≡ wanted
+        → AsksIn n table book turn slot now wanted
+    wanted_in slot now plan wanted learned is wants =
         let planned : IsPlanned table state (Tick now plan) = subst (IsPlanned table state) is takes.planned in
         record {
           who = who;
@@ -145,6 +144,12 @@ module _ (n : ℕ) (table : Table) (book : List Row) (few : n ≤ 7) (legal : Is
           launch_is = planned.0;
           asks = subst (IsIntent table plan.rows now) wants planned.1;
         }
+
+    ticked_in : (slot : ℕ) (entry : Entry) → prefix_of state ≡ slot → IsTicked event entry → AsksEntry n table book turn slot entry
+    ticked_in slot Noop learned ticked = tt
+    ticked_in slot (End job at kind) learned ticked = tt
+    ticked_in slot (Start job at now) learned (plan, is, wants) = wanted_in slot now plan (intent.Start job at) learned is wants
+    ticked_in slot (TableEntry version now) learned (plan, is, wants) = wanted_in slot now plan (intent.Adopt version) learned is wants
 
     pub vote_asked : (vote : Vote) → Contains (votes_of (acts_at n standing who event)) vote
         → WasCast (votes_in book) vote.slot vote.entry ⊎ AsksEntry n table book turn vote.slot vote.entry

@@ -46,6 +46,7 @@ follow_call self now (intent.Call job at kind) ballot best state call acts is =
     let same : record { name = record { job = job; at = at }; kind = kind; now = record { 0 = now }; by = self.me } ≡ call = cc in
     ap (λ (r : SchedRow). r.now.0) (sym same)
 follow_call self now (intent.Start job at) ballot best state call acts is = absurd cc
+follow_call self now (intent.Adopt version) ballot best state call acts is = absurd cc
 follow_call self now intent.Rest ballot best state call acts is = absurd cc
 
 tick_call : (self : Identity) (now : ℤ) (wanted : Intent) (state : State) (term : Term) (call : SchedRow) (acts : List Act)

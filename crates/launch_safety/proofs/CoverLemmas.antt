@@ -236,13 +236,13 @@ cover_table table log adoptions rows middle version now job clerk takes e known_
         ∙ ap (λ (m : List JobRow). slice_get m job) (sym e) ∙ is_row
 
     shut : row.open_now ≡ None
-    shut = takes.ended.closed job row there
+    shut = (takes.ended job row there).closed
 
     old : IsCovered table log adoptions (in_force table rows) job row.cursor row.open_now
     old = known row there
 
     passed : IsBy now row.cursor
-    passed = takes.ended.passed job row there known_job plain
+    passed = (takes.ended job row there).passed known_job plain
 
     -- nothing is to come up to the adoption
     none_left : (t : ℤ) → t ≤ℤ now → IsToCome table (in_force table rows) job row.cursor t → ⊥

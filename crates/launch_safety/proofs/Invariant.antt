@@ -74,4 +74,5 @@ works_more table log more slot (Start job at now) (short, takes) =
     (front_longer log more slot short, after_more table log more slot (Start job at now) short takes)
 works_more table log more slot (End job at kind) (short, takes) =
     (front_longer log more slot short, after_more table log more slot (End job at kind) short takes)
-works_more table log more slot (TableEntry version now) works = absurd works
+works_more table log more slot (TableEntry version now) (short, takes) =
+    (front_longer log more slot short, after_more table log more slot (TableEntry version now) short takes)

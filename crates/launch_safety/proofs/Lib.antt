@@ -15,19 +15,23 @@
 --   `made_held`).
 -- - An end of a replica's own accord is the answer that waited for it, so it says what is held (`Turns`:
 --   `answer_held`, `enters`).
--- - A start or an end of its own accord takes effect at its prefix, and is proposed at the slot of that prefix
---   (`Turns`: `enters`).
+-- - A start, an end or an adoption of its own accord takes effect at its prefix, and is proposed at the slot of that
+--   prefix (`Turns`: `enters`).
 -- - A vote that binds a proposal, and one that was asked for, was cast for that slot before: so each vote says what
 --   is held, and takes effect at its slot (`Invariant`: `says`, `works`; `Turns`: `proposes`, `turn_votes`).
 -- - A chosen entry has a vote, so each end of the log says what is held, and each entry but a no-op takes effect
 --   (`Whole`: `end_held`, `entry_takes`).
 -- - So the entries leave a launch table one after another, a job's starts come in order, and its launches are a
 --   period apart (`Whole`: `log_clerk`, `whole`).
--- - No vote is for the adoption of a version, so the first stays in force (`Whole`: `none_adopted`, `front_force`).
+-- - An entry for a version takes effect, so a log that adopts none has no such entry, and the first version stays in
+--   force (`Whole`: `no_version`, `front_force`); of a table of one version each log is such (`Whole`: `none_adopted`).
 --
--- Each start and each call was asked for at its reading:
--- - A step votes for what a letter asks for, or offers an entry by its first act; it offers a start at a tick alone,
---   and that start is what its launch table asks for (`Offers`: `step_offers`, `step_votes`).
+-- Versions are adopted one after another, each by the one in force then and no sooner than that was (`VersionLemmas`:
+-- `behind_from`).
+--
+-- Each start, each adoption and each call was asked for at its reading:
+-- - A step votes for what a letter asks for, or offers an entry by its first act; it offers a start or an adoption at a
+--   tick alone, and that is what its launch table asks for (`Offers`: `step_offers`, `step_votes`).
 -- - An offer that a vote binds is of an entry that was voted for at the slot before; what a letter asks for was
 --   voted for by its sender (`Asking`: `bound_before`, `asked_before`).
 -- - So each vote of a turn was cast before for its slot and entry, or is asked for in the turn; and so is each call
@@ -55,8 +59,10 @@ pub mod PeriodLemmas
 pub mod ReadLemmas
 pub mod Rises
 pub mod SettledLemmas
+pub mod SomeAdoption
 pub mod Takeover
 pub mod Turns
+pub mod VersionLemmas
 pub mod Void
 pub mod VoidLemmas
 pub mod Whole

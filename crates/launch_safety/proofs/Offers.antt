@@ -1,11 +1,11 @@
--- What a step offers of its own accord: by its first act, and a start only at a tick whose launch table asks for it.
+-- What a step offers of its own accord: by its first act, and a start or an adoption only at a tick whose launch table asks for it.
 use Rattle.std.proofs.Common.{◌≡◌, ◌⊎◌, ℕ, Bool, true, false, Some, None, List, [], ◌∷◌, ℤ, refl, inl, inr, subst}
 use Rattle.std.specs.List.{AllByRecursion, Contains}
 use Rattle.std.proofs.lemmas.Bool.{cases_Bool}
 use Rattle.std.proofs.lemmas.List.Elements.{Contains-append_cases}
 use Rattle.paxos_base.specs.Vote.{votes_from}
 use Rattle.paxos_base.specs.declared.entry.Entry.{Entry}
-use Rattle.paxos_base.specs.declared.entry.Entry.TheVariants.{Noop, Start, End}
+use Rattle.paxos_base.specs.declared.entry.Entry.TheVariants.{Noop, Start, End, Table as TableEntry}
 use Rattle.paxos_base.specs.declared.entry.Kind.{Kind}
 use Rattle.paxos_base.specs.declared.entry.Vote.{Vote}
 use Rattle.term_core.specs.declared.term.Term.{Term}
@@ -24,9 +24,10 @@ use Rattle.history.specs.Book.{votes_by, votes_of}
 use Rattle.history.proofs.PlainLemmas.{AsksFor, RestPlain, step_plain, plain_votes}
 use Rattle.due_set.proofs.Rising.{Contains-cases as cons_cases}
 
--- the event is a tick at the start's instant, and its plan is that start; of another entry nothing is asked
+-- the event is a tick at the instant of the start or adoption, and its plan is that; of another entry nothing is asked
 abbrev pub IsTicked : Event → Entry → Type 0
 IsTicked event (Start job at now) = (plan : Plan) × (event ≡ Tick now plan) × (plan.intent ≡ intent.Start job at)
+IsTicked event (TableEntry version now) = (plan : Plan) × (event ≡ Tick now plan) × (plan.intent ≡ intent.Adopt version)
 IsTicked event entry = Unit {0}
 
 -- a leader without a flight offers the entry, or what a vote binds it to
@@ -56,6 +57,7 @@ follow_offers : (self : Identity) (now : ℤ) (plan : Plan) (state : State) (bal
     → FirstOffers (Tick now plan) state (follow_intent self now wanted ballot best state)
 follow_offers self now plan state ballot best leader (intent.Call job at kind) is = λ vote has. nothing_in has
 follow_offers self now plan state ballot best leader (intent.Start job at) is = offers self (Tick now plan) state ballot best (Start job at now) leader (plan, refl, is)
+follow_offers self now plan state ballot best leader (intent.Adopt version) is = offers self (Tick now plan) state ballot best (TableEntry version now) leader (plan, refl, is)
 follow_offers self now plan state ballot best leader intent.Rest is = λ vote has. nothing_in has
 
 tick_offers : (self : Identity) (now : ℤ) (plan : Plan) (state : State) (term : Term) → state.term ≡ term

@@ -72,7 +72,7 @@ open_table table log rows middle version now job clerk takes e row is_row = elim
   | inr other ↦
       let there : slice_get middle job ≡ slice_get rows job =
       ap (λ (m : List JobRow). slice_get m job) e ∙ set_there rows own job (adopted_row version now (get_or rows own (fresh_row own))) other in
-      open_none table (log ++ TableEntry version now ∷ []) (in_force table middle).version job row (takes.ended.closed job row (sym there ∙ is_row))
+      open_none table (log ++ TableEntry version now ∷ []) (in_force table middle).version job row ((takes.ended job row (sym there ∙ is_row)).closed)
 ]
   where
     own : ℕ
@@ -83,7 +83,7 @@ open_table table log rows middle version now job clerk takes e row is_row = elim
         let old : JobRow = get_or rows own (fresh_row own) in
         let here : slice_get rows own ≡ Some old = slice_get-get_or rows own (fresh_row own) (omega (arith, (clerk_stands table log rows clerk).numbered.count)) in
         let adopted : adopted_row version now old ≡ row = changed (adopted_row version now) rows own old row here (ap (λ (m : List JobRow). slice_get m own) (sym e) ∙ is) in
-        ap (λ (r : JobRow). r.open_now) (sym adopted) ∙ takes.ended.closed own old here
+        ap (λ (r : JobRow). r.open_now) (sym adopted) ∙ (takes.ended own old here).closed
 
 -- one more entry
 open_next : (table : Table) (log : List Entry) (rows middle : List JobRow) (entry : Entry) (job : ℕ) → IsClerkOf table log rows → Applies table rows entry middle

@@ -8,14 +8,15 @@ use Rattle.paxos_base.specs.declared.entry.Entry.{Entry}
 use Rattle.paxos_base.specs.declared.entry.Kind.{Kind}
 use Rattle.paxos_base.specs.declared.rows.JobRow.{JobRow}
 use Rattle.due_set.specs.Calls.{HasCome}
-use Rattle.due_set.specs.Table.{Table, IsJobDue, is_by_period}
+use Rattle.due_set.specs.Table.{Table, IsJobDue, IsSound, is_by_period}
 use Rattle.due_set.specs.declared.job.JobKind.{JobKind}
 use Rattle.due_set.proofs.ExistLemmas.{next_up_to}
+use Rattle.due_set.proofs.NamedLemmas.{due_says, named_in_table}
 use Rattle.due_set.proofs.Rising.{Contains-none}
 use Rattle.due_set.proofs.SoundLemmas.{at_place}
 use Rattle.launch_machine.specs.Clerk.{IsClerkOf, in_force, later_of, table_size}
 use Rattle.launch_machine.specs.Starts.{AdoptionsOf}
-use Rattle.launch_machine.specs.Versions.{IsDueUnder}
+use Rattle.launch_machine.specs.Versions.{IsDueUnder, version_at}
 use Rattle.launch_machine.specs.declared.force.InForce.{InForce}
 use Rattle.launch_machine.proofs.VersionRows.{clerk_stands}
 use Rattle.launch_safety.specs.Fits.{HasStart, HasEnd}
@@ -100,3 +101,11 @@ pub settled_plain : (table : Table) (log : List Entry) (adoptions : List ℤ) (n
     → HasStart table log job at × (kind : Kind) × HasEnd table log job at kind
 settled_plain table log adoptions now job at adopted settled known named due come =
     settled_under table log adoptions now job at adopted settled known (λ t h. named) due come
+
+-- in a sound table each job that is due is one of the table, and its name says that it doesn't run by a period
+pub settled_sound : (table : Table) (log : List Entry) (adoptions : List ℤ) (now : ℤ) (job : ℕ) (at : ℤ) → IsSound table → AdoptionsOf table log adoptions
+    → IsSettled table log now → IsDueUnder table adoptions job at → at ≤ℤ now → HasStart table log job at × (kind : Kind) × HasEnd table log job at kind
+settled_sound table log adoptions now job at sound adopted settled due come =
+    let version : ℕ = version_at adoptions at in
+    let first = named_in_table table version job due.job sound due.is_in.is_job in
+    settled_plain table log adoptions now job at adopted settled (slice_get_within table.jobs job first.0 first.1) (due_says table version job at sound due) due come

@@ -159,7 +159,7 @@ module _ (n : ℕ) (table : Table) (book : List Row) (few : n ≤ 7) (legal : Is
   -- an entry of the replica's own accord takes effect at its prefix, and an end is what the scheduler has answered
   enters : (entry : Entry) → MayEnter setting state entry → Says (prefix_of state) entry
   enters Noop may = (tt, tt)
-  enters (TableEntry version now) may = absurd may
+  enters (TableEntry version now) may = (tt, (follows.short, (may.rows, follows.table_is may.rows may.rows_are, may.asked.1)))
   enters (Start job at now) may = (tt, (follows.short, (may.rows, follows.table_is may.rows may.rows_are, may.asked.1.takes)))
   enters (End job at kind) may = (
     answer_held cause takes.event_of (record { to = who; job = job; at = at; kind = kind }) may.answered,

@@ -1,4 +1,4 @@
--- Each start that was voted for and each call was asked for in a turn of the book whose clock read its instant.
+-- Each start and each adoption that was voted for, and each call, was asked for in a turn of the book whose clock read its instant.
 use Rattle.std.proofs.Common.{◌≡◌, ℕ, zero, suc, ◌+◌, ◌≤◌, Option, Some, None, List, [], ◌∷◌, ◌++◌, length, take, ℤ, ◌≤ℤ◌, refl, sym, ap, ◌∙◌, inl, inr, arith, subst, append-nil, append_assoc}
 use Rattle.std.specs.List.{Contains}
 use Rattle.std.proofs.lemmas.Int.{ints}
@@ -69,20 +69,21 @@ asked_here n table book row slot now wanted asks = record {
   asks = asks.asks;
 }
 
--- the start was asked for; of another entry nothing is said
+-- the start or the adoption was asked for; of another entry nothing is said
 abbrev IsEntryAsked : ℕ → Table → List Row → ℕ → Entry → Type 0
 IsEntryAsked n table book slot (Start job at now) = IsAskedAt n table book slot now (intent.Start job at)
+IsEntryAsked n table book slot (TableEntry version now) = IsAskedAt n table book slot now (intent.Adopt version)
 IsEntryAsked n table book slot entry = Unit {0}
 
 entry_more : (n : ℕ) (table : Table) (book more : List Row) (slot : ℕ) (entry : Entry) → IsEntryAsked n table book slot entry → IsEntryAsked n table (book ++ more) slot entry
 entry_more n table book more slot Noop known = tt
-entry_more n table book more slot (TableEntry version now) known = tt
+entry_more n table book more slot (TableEntry version now) known = asked_more n table book more slot now (intent.Adopt version) known
 entry_more n table book more slot (End job at kind) known = tt
 entry_more n table book more slot (Start job at now) known = asked_more n table book more slot now (intent.Start job at) known
 
 entry_here : (n : ℕ) (table : Table) (book : List Row) (row : Row) (slot : ℕ) (entry : Entry) → AsksEntry n table book row.turn slot entry → IsEntryAsked n table (book ++ row ∷ []) slot entry
 entry_here n table book row slot Noop known = tt
-entry_here n table book row slot (TableEntry version now) known = tt
+entry_here n table book row slot (TableEntry version now) known = asked_here n table book row slot now (intent.Adopt version) known
 entry_here n table book row slot (End job at kind) known = tt
 entry_here n table book row slot (Start job at now) known = asked_here n table book row slot now (intent.Start job at) known
 
@@ -129,9 +130,9 @@ record AreAsked (n : ℕ) (table : Table) (book : List Row) (standing : Standing
   held : (row : SchedRow) → Contains standing.held row → IsCallAsked n table book row
   late : (row : SchedRow) → Contains standing.late row → IsCallAsked n table book row
 
--- so was each start that was voted for
+-- so was each start and each adoption that was voted for
 record AllAsked (n : ℕ) (table : Table) (book : List Row) (votes : List CastVote) (standing : Standing) : Type 0 where
-  starts : (cast : CastVote) → Contains votes cast → IsEntryAsked n table book cast.vote.slot cast.vote.entry
+  entries : (cast : CastVote) → Contains votes cast → IsEntryAsked n table book cast.vote.slot cast.vote.entry
   calls : AreAsked n table book standing
 
 module _ (n : ℕ) (table : Table) (book : List Row) (few : n ≤ 7) (legal : IsLegal n table book) (row : Row)
@@ -150,11 +151,11 @@ module _ (n : ℕ) (table : Table) (book : List Row) (few : n ≤ 7) (legal : Is
 
   next_votes : MayFollow n table st row.turn row → (cast : CastVote) → Contains (votes_in book ++ cast_votes (turn_of row.turn) row.votes) cast → IsEntryAsked n table longer cast.vote.slot cast.vote.entry
   next_votes may cast has = elim (Contains-append_cases (votes_in book) (cast_votes (turn_of row.turn) row.votes) cast has) [
-    | inl old ↦ entry_more n table book (row ∷ []) cast.vote.slot cast.vote.entry (known.starts cast old)
+    | inl old ↦ entry_more n table book (row ∷ []) cast.vote.slot cast.vote.entry (known.entries cast old)
     | inr now ↦ elim (row_votes n table book few legal row.turn row may cast now) [
       | inl before ↦
           let at_slot : IsEntryAsked n table longer cast.vote.slot before.cast.vote.entry = subst (λ slot. IsEntryAsked n table longer slot before.cast.vote.entry) before.at_slot
-          (entry_more n table book (row ∷ []) before.cast.vote.slot before.cast.vote.entry (known.starts before.cast before.has)) in
+          (entry_more n table book (row ∷ []) before.cast.vote.slot before.cast.vote.entry (known.entries before.cast before.has)) in
           subst (IsEntryAsked n table longer cast.vote.slot) before.of_entry at_slot
       | inr asks ↦ entry_here n table book row cast.vote.slot cast.vote.entry asks
     ]
@@ -206,12 +207,12 @@ next_asked n table book row few legal may known =
     let goes : (standing_after n (first_rows table) (book ++ row ∷ [])) ≡ after_row n (standing_after n (first_rows table) book) row.turn row.event row.letters =
     fold_push _ (first_standing n (first_rows table)) book row in
     record {
-      starts = λ cast has. next_votes n table book few legal row known may cast (subst (λ votes. Contains votes cast) (votes_push book row) has);
+      entries = λ cast has. next_votes n table book few legal row known may cast (subst (λ votes. Contains votes cast) (votes_push book row) has);
       calls = subst (AreAsked n table (book ++ row ∷ [])) (sym goes) calls;
     }
 
 front_asked : (n : ℕ) (table : Table) (book : List Row) (k : ℕ) → n ≤ 7 → IsLegal n table book → k ≤ length book → IsAsked n table (take k book)
-front_asked n table book zero few legal within = record { starts = λ cast has. nothing_in has; calls = record { held = λ row has. nothing_in has; late = λ row has. nothing_in has } }
+front_asked n table book zero few legal within = record { entries = λ cast has. nothing_in has; calls = record { held = λ row has. nothing_in has; late = λ row has. nothing_in has } }
 front_asked n table book (suc k) few legal within =
     let row = row_at book k (omega (arith, within)) in
     let next : take (suc k) book ≡ take k book ++ row.0 ∷ [] = take_next book k row.0 row.1 in
@@ -226,7 +227,14 @@ book_asked n table book few legal = subst (IsAsked n table) (take_all (length bo
 pub start_asked : (n : ℕ) (table : Table) (book : List Row) (cast : CastVote) (job : ℕ) (at now : ℤ) → n ≤ 7 → IsLegal n table book → Contains (votes_in book) cast
     → cast.vote.entry ≡ Start job at now → IsAskedAt n table book cast.vote.slot now (intent.Start job at)
 start_asked n table book cast job at now few legal has is =
-    let known : IsEntryAsked n table book cast.vote.slot (Start job at now) = subst (IsEntryAsked n table book cast.vote.slot) is ((book_asked n table book few legal).starts cast has) in
+    let known : IsEntryAsked n table book cast.vote.slot (Start job at now) = subst (IsEntryAsked n table book cast.vote.slot) is ((book_asked n table book few legal).entries cast has) in
+    known
+
+pub adoption_asked : (n : ℕ) (table : Table) (book : List Row) (cast : CastVote) (version : ℕ) (now : ℤ) → n ≤ 7 → IsLegal n table book → Contains (votes_in book) cast
+    → cast.vote.entry ≡ TableEntry version now → IsAskedAt n table book cast.vote.slot now (intent.Adopt version)
+adoption_asked n table book cast version now few legal has is =
+    let known : IsEntryAsked n table book cast.vote.slot (TableEntry version now) =
+    subst (IsEntryAsked n table book cast.vote.slot) is ((book_asked n table book few legal).entries cast has) in
     known
 
 pub held_asked : (n : ℕ) (table : Table) (book : List Row) (row : SchedRow) → n ≤ 7 → IsLegal n table book → Contains (standing_after n (first_rows table) book).held row

@@ -1,6 +1,6 @@
 -- How the log and the rows that the scheduler holds fit together.
 -- Source: "Reliable Cron across the Planet"; that an instant isn't passed over is this project's; anacrontab(5) of cronie for periods.
-use Rattle.std.specs.Prelude.{◌≡◌, ℕ, List, ◌∷◌, ◌++◌, Some, ℤ, ◌<ℤ◌, All, Contains}
+use Rattle.std.specs.Prelude.{◌≡◌, ℕ, suc, ◌≤◌, List, ◌∷◌, ◌++◌, length, Some, ℤ, ◌<ℤ◌, ◌≤ℤ◌, All, AllPairs, Contains, slice_get}
 use Rattle.jiff.specs.Types.{TimeZone}
 use Rattle.paxos_base.specs.declared.entry.Entry.{Entry}
 use Rattle.paxos_base.specs.declared.entry.Entry.TheVariants.{Start, End}
@@ -10,7 +10,7 @@ use Rattle.paxos_base.specs.declared.rows.JobRow.{JobRow}
 use Rattle.due_set.specs.Anacron.{IsPeriodOver}
 use Rattle.due_set.specs.Calls.{HasCome}
 use Rattle.due_set.specs.Due.{IsRising}
-use Rattle.due_set.specs.Table.{Job, Table, IsJobIn, job_of_version}
+use Rattle.due_set.specs.Table.{Job, Table, IsJobIn, job_of_version, version_from}
 use Rattle.due_set.specs.declared.job.JobKind.TheVariants.{Anacron}
 use Rattle.due_set.specs.declared.job.Period.{Period}
 use Rattle.cluster_sched.specs.Held.{AreNamedOnce}
@@ -83,6 +83,13 @@ pub record StartsInOrder (table : Table) (log : List Entry) (job : ℕ) : Type 0
   pub adopted : AdoptionsOf table log adoptions
   pub rising : IsRising instants
   pub first : RunsByInstants table job → IsFrontUnder table adoptions job instants
+
+-- The instants at which versions of the table after the first were adopted, one after another: the table has so many, each might be in
+-- force by then, and none came before an earlier one.
+pub record AreAdoptions (table : Table) (adoptions : List ℤ) : Type 0 where
+  pub few : length adoptions ≤ length table.later
+  pub come : (place : ℕ) (now : ℤ) → slice_get adoptions place ≡ Some now → version_from table (suc place) ≤ℤ now
+  pub in_order : AllPairs (λ a b. a ≤ℤ b) adoptions
 
 -- where a version has the job run by a period, that is over on the later date since the earlier one
 abbrev pub IsPeriodApart : Table → (version job : ℕ) → (earlier later : ℤ) → Type 0

@@ -18,10 +18,9 @@ abbrev pub FitsItsLog : ℕ → Table → List Row → Type 0
 FitsItsLog members table book =
     (log : List Entry) → IsLog members (votes_in book) log → Fits table log (held_in members table book)
 
--- the log reaches up to the slot, and the entry takes effect on what the entries before the slot left; of a no-op nothing is asked,
--- and the adoption of a version is no entry, since no replica proposes one yet
+-- the log reaches up to the slot, and the entry takes effect on what the entries before the slot left; of a no-op nothing is asked
 abbrev pub TakesEffectAt : Table → List Entry → (slot : ℕ) → Entry → Type 0
 TakesEffectAt table log slot Noop = ⊤
 TakesEffectAt table log slot (Start job at now) = (slot ≤ length log) × TakesEffectAfter table (take slot log) (Start job at now)
 TakesEffectAt table log slot (End job at kind) = (slot ≤ length log) × TakesEffectAfter table (take slot log) (End job at kind)
-TakesEffectAt table log slot (TableEntry version now) = ⊥
+TakesEffectAt table log slot (TableEntry version now) = (slot ≤ length log) × TakesEffectAfter table (take slot log) (TableEntry version now)

@@ -50,8 +50,7 @@ pub fn each_end_says_what_is_held()
         → IsHeld (held_in members table book) job at kind }
 {}
 
-/// Each entry of the log of a legal book takes effect but the no-ops. So does at its slot the entry of each vote, chosen or not,
-/// and none adopts a version.
+/// Each entry of the log of a legal book takes effect but the no-ops. So does at its slot the entry of each vote, chosen or not.
 pub fn each_entry_takes_effect()
     ensures log { (members : ℕ) (table : Table) (book : List Row) (log before after : List Entry) (entry : Entry) → members ≤ 7
         → IsLegal members table book → IsLog members (votes_in book) log → log ≡ before ++ entry ∷ after → entry ≢ Noop
@@ -74,16 +73,23 @@ pub fn a_log_leaves_a_table()
         → IsLog members (votes_in book) log → (rows : List JobRow) × IsClerkOf table log rows }
 {}
 
-/// No version is adopted in the log of a legal book, since no replica proposes one yet: so the first stays in force, and each
-/// launch is started under it.
-pub fn a_legal_log_adopts_no_version()
+/// Where the log of a legal book adopts no version, the first stays in force, and each launch is started under it. So it is where
+/// the table has no other.
+pub fn a_log_may_stay_by_the_first_version()
     ensures none { (members : ℕ) (table : Table) (book : List Row) (log : List Entry) → members ≤ 7 → IsLegal members table book
-        → IsLog members (votes_in book) log → AdoptionsOf table log [] }
+        → IsLog members (votes_in book) log → table.later ≡ [] → AdoptionsOf table log [] }
     ensures first { (members : ℕ) (table : Table) (book : List Row) (log : List Entry) (rows : List JobRow) → members ≤ 7
-        → IsLegal members table book → IsLog members (votes_in book) log → IsClerkOf table log rows
+        → IsLegal members table book → IsLog members (votes_in book) log → AdoptionsOf table log [] → IsClerkOf table log rows
         → in_force table rows ≡ first_force }
     ensures start { (members : ℕ) (table : Table) (book : List Row) (log : List Entry) (version job : ℕ) (at : ℤ) → members ≤ 7
-        → IsLegal members table book → IsLog members (votes_in book) log → IsStartedUnder table log version job at → version ≡ 0 }
+        → IsLegal members table book → IsLog members (votes_in book) log → AdoptionsOf table log []
+        → IsStartedUnder table log version job at → version ≡ 0 }
+{}
+
+/// There is a legal book whose log adopts a version.
+pub fn a_legal_log_may_adopt_a_version()
+    ensures { (table : Table) × (book : List Row) × (log : List Entry) × (now : ℤ)
+        × IsSound table × IsLegal 1 table book × IsLog 1 (votes_in book) log × AdoptionsOf table log (now ∷ []) }
 {}
 
 /// The log after some turns of a legal book is a front of its log.
@@ -103,11 +109,12 @@ pub fn a_late_call_may_arrive_behind_a_void()
 {}
 
 /// There is a legal book in which a job that runs by its period is launched on two dates. In each such book they are a period
-/// apart.
+/// apart, by the version under which the later launch was started.
 pub fn a_job_may_be_launched_on_two_dates()
     ensures some { (table : Table) × (book : List Row) × IsSound table × IsLegal 1 table book × HasTwoDates 1 table book }
-    ensures apart { (members : ℕ) (table : Table) (book : List Row) (dates : HasTwoDates members table book) → members ≤ 7
-        → IsLegal members table book → IsPeriodApart table 0 dates.job dates.first dates.second }
+    ensures apart { (members : ℕ) (table : Table) (book : List Row) (log : List Entry) (dates : HasTwoDates members table book) (version : ℕ)
+        → members ≤ 7 → IsLegal members table book → IsLog members (votes_in book) log
+        → IsStartedUnder table log version dates.job dates.second → IsPeriodApart table version dates.job dates.first dates.second }
 {}
 
 /// There is a legal book of two replicas in which a launch is started, called in time and ended. In each legal book a row of the

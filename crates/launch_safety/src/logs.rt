@@ -16,7 +16,7 @@ ghost use Rattle.launch_machine.specs.Answers.{IsCallKind};
 ghost use Rattle.launch_machine.specs.Clerk.{IsClerkOf, TakesStart, in_force};
 ghost use Rattle.launch_machine.specs.Starts.{AdoptionsOf, StartsOf};
 ghost use Rattle.launch_machine.specs.Versions.{IsDueUnder, IsFrontUnder, RunsByInstants};
-ghost use Rattle.launch_safety.specs.Fits.{AreAllEffective, ArePeriodsApart, Fits, HasStart, HasEnd, IsBacked, IsEffective, IsHeld, IsPeriodApart, IsStartedUnder};
+ghost use Rattle.launch_safety.specs.Fits.{AreAdoptions, AreAllEffective, ArePeriodsApart, Fits, HasStart, HasEnd, IsBacked, IsEffective, IsHeld, IsPeriodApart, IsStartedUnder};
 ghost use Rattle.launch_safety.specs.Launched.{IsCalledAt, IsLatest, IsWanted, LaunchesEachDue, OpensBy};
 ghost use Rattle.launch_safety.specs.Settled.{IsSettled};
 
@@ -40,8 +40,8 @@ pub fn a_start_stands_before_its_end()
         × (log ≡ before ++ Entry.End job at kind ∷ after) × HasStart table before job at }
 {}
 
-/// Each due instant, by the version in force then, up to the one at which a log is settled was started and ended: where a
-/// version is adopted, of each job of the table whose name has no `/`.
+/// Each due instant, by the version in force then, up to the one at which a log is settled was started and ended: in a sound
+/// table, and where versions are adopted in any other, of each job whose name has no `/`.
 pub fn a_settled_log_has_each_due_instant()
     ensures first { (table : Table) (log : List Entry) (now : ℤ) (job : ℕ) (at : ℤ)
         → AdoptionsOf table log [] → IsSettled table log now → IsJobDue table 0 job at → at ≤ℤ now
@@ -50,6 +50,14 @@ pub fn a_settled_log_has_each_due_instant()
         → AdoptionsOf table log adoptions → IsSettled table log now → job < length table.jobs → is_by_period table job ≡ false
         → IsDueUnder table adoptions job at → at ≤ℤ now
         → HasStart table log job at × (kind : Kind) × HasEnd table log job at kind }
+    ensures sound { (table : Table) (log : List Entry) (adoptions : List ℤ) (now : ℤ) (job : ℕ) (at : ℤ)
+        → IsSound table → AdoptionsOf table log adoptions → IsSettled table log now → IsDueUnder table adoptions job at → at ≤ℤ now
+        → HasStart table log job at × (kind : Kind) × HasEnd table log job at kind }
+{}
+
+/// A log adopts versions one after another, each no sooner than it may be in force.
+pub fn a_log_adopts_versions_in_turn()
+    ensures { (table : Table) (log : List Entry) (adoptions : List ℤ) → AdoptionsOf table log adoptions → AreAdoptions table adoptions }
 {}
 
 /// Where the log and what is held fit, a launch is held once.

@@ -1,7 +1,7 @@
 //! Laws of the clock readings by which launches start and are called. Each is the contract of a function that does nothing.
 ghost use Rattle.std.specs.Prelude.{◌≡◌, ◌≤◌, ◌≤ℤ◌, ℕ, ℤ, Contains, List};
 ghost use Rattle.paxos_base.specs.declared.entry.Entry.{Entry};
-ghost use Rattle.paxos_base.specs.declared.entry.Entry.TheVariants.{Start};
+ghost use Rattle.paxos_base.specs.declared.entry.Entry.TheVariants.{Start, Table as TableEntry};
 ghost use Rattle.due_set.specs.Table.{Table};
 ghost use Rattle.cluster_sched.specs.declared.row.SchedRow.{SchedRow};
 ghost use Rattle.launch_machine.specs.Clerk.{first_rows};
@@ -21,6 +21,14 @@ pub fn each_start_was_read()
     ensures { (members : ℕ) (table : Table) (book : List Row) (cast : CastVote) (job : ℕ) (at now : ℤ) → members ≤ 7
         → IsLegal members table book → Contains (votes_in book) cast → cast.vote.entry ≡ Start job at now
         → IsAskedAt members table book cast.vote.slot now (intent.Start job at) }
+{}
+
+/// In a legal book each vote for the adoption of a version, chosen or not, goes back to such a turn too, by whose launch table that was
+/// asked for.
+pub fn each_adoption_was_read()
+    ensures { (members : ℕ) (table : Table) (book : List Row) (cast : CastVote) (version : ℕ) (now : ℤ) → members ≤ 7
+        → IsLegal members table book → Contains (votes_in book) cast → cast.vote.entry ≡ TableEntry version now
+        → IsAskedAt members table book cast.vote.slot now (intent.Adopt version) }
 {}
 
 /// In a legal book each row that is held, and each late call, arrived or not, was called in a turn whose clock read what the row

@@ -99,7 +99,7 @@ const STEPS: &[Step] = &[
     // It would be before the launch.
     Step {
         minute: 36,
-        intent: Intent::Rest,
+        intent: Intent::Adopt { version: 1 },
         next: Some(40),
         entry: Entry::Table {
             version: 1,
@@ -110,7 +110,7 @@ const STEPS: &[Step] = &[
     // A start is due then.
     Step {
         minute: 39,
-        intent: Intent::Rest,
+        intent: Intent::Adopt { version: 1 },
         next: Some(40),
         entry: Entry::Table {
             version: 1,
@@ -121,7 +121,7 @@ const STEPS: &[Step] = &[
     // The one in force, and one that the table hasn't.
     Step {
         minute: 39,
-        intent: Intent::Rest,
+        intent: Intent::Adopt { version: 1 },
         next: Some(40),
         entry: Entry::Table {
             version: 0,
@@ -131,7 +131,7 @@ const STEPS: &[Step] = &[
     },
     Step {
         minute: 39,
-        intent: Intent::Rest,
+        intent: Intent::Adopt { version: 1 },
         next: Some(40),
         entry: Entry::Table {
             version: 2,
@@ -141,7 +141,7 @@ const STEPS: &[Step] = &[
     },
     Step {
         minute: 39,
-        intent: Intent::Rest,
+        intent: Intent::Adopt { version: 1 },
         next: Some(40),
         entry: Entry::Table {
             version: 1,

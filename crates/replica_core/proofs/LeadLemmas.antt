@@ -27,7 +27,7 @@ use Rattle.step_spec.specs.Folds.{calls_by, deltas_by, learnt_by}
 use Rattle.step_spec.specs.Message.{Accept, Known, Others, Outside, Prepare}
 use Rattle.step_spec.specs.Propose.{answer, campaign, end_if, is_long, is_open, lead_if, lead_on, next_ballot, propose, tick, vote_of, wait}
 use Rattle.step_spec.specs.State.{Identity, State, prefix_of}
-use Rattle.replica_draft.specs.Draft.{Chooses, Goes, FixedParts, TakesTable, done, drafted, said_by, with_best}
+use Rattle.replica_draft.specs.Draft.{Chooses, Goes, FixedParts, TakesRows, done, drafted, said_by, with_best}
 use Rattle.replica_core.specs.Lines.{GoesOnByActs, IsFixed}
 use Rattle.replica_core.specs.Replica.{FliesAt, IsReadyAnyhow, IsWhole, Makes, own_identity, idle_desk, fixed_of, next_slot, state_of}
 use Rattle.replica_core.specs.declared.parts.Core.{Core}
@@ -243,7 +243,7 @@ wait-not_yet ballot flight none =
 
 -- a replica whose log is long takes its launch table in its place
 pub compacts : (core : Core) (old new : Draft) (slot : ℕ) (rows : List JobRow) → drafted (fixed_of core) old ≡ idle_desk core → old.change ≡ None → slot ≡ prefix_of (state_of core)
-    → TakesTable old new slot rows None → Makes core (Rebase (prefix_of (state_of core)) rows ∷ []) new
+    → TakesRows old new slot rows None → Makes core (Rebase (prefix_of (state_of core)) rows ∷ []) new
 compacts core old new slot rows idle none at takes =
     let prefix : prefix_of (drafted (fixed_of core) old).state ≡ prefix_of (state_of core) = ap (λ desk. prefix_of desk.state) idle in
     rw (← at)

@@ -16,7 +16,7 @@ use Rattle.step_spec.specs.Heard.{row_in, vote_in}
 use Rattle.step_spec.specs.Hear.{known_from, on_ask, on_snap, send_all, snapshot}
 use Rattle.step_spec.specs.Message.{Known, Only, Snap}
 use Rattle.step_spec.specs.declared.out.LearntRow.{LearntRow}
-use Rattle.replica_draft.specs.Draft.{HasSent, SendsOnly, TakesTable, drafted, entries_in, has_copied, learned_with}
+use Rattle.replica_draft.specs.Draft.{HasSent, SendsOnly, TakesRows, drafted, entries_in, has_copied, learned_with}
 use Rattle.replica_draft.specs.declared.change.Change.{Change}
 use Rattle.replica_draft.specs.declared.change.Change.TheVariants as change
 use Rattle.replica_draft.specs.declared.change.Rebased.{Rebased}
@@ -219,7 +219,7 @@ snap-old core old slot rows reached =
     does_nothing core old (on_snap slot rows) (λ kept is. rw (drafted-prefix core old kept is, le-ltb (next_slot core.learner old) slot reached) refl)
 
 pub snap-taken : (core : Core) (old new : Draft) (slot : ℕ) (rows : List JobRow) (machine : Option Launches) → old.change ≡ None → next_slot core.learner old < slot
-    → TakesTable old new slot rows machine → GoesOnByActs core old new (on_snap slot rows)
+    → TakesRows old new slot rows machine → GoesOnByActs core old new (on_snap slot rows)
 unfolding on_snap
 snap-taken core old new slot rows machine none behind takes kept is =
     let prefix = drafted-prefix core old kept is in

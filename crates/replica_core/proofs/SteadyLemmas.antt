@@ -14,7 +14,7 @@ use Rattle.term_core.specs.Best.{best_of}
 use Rattle.term_core.specs.Term.{after_accepted, after_advance, after_ballot, after_promise, after_proposal, after_tick, candidacy, is_ended_by}
 use Rattle.term_core.specs.declared.term.Term.{Term}
 use Rattle.term_core.specs.declared.term.Term.TheVariants.{Follower, Candidate, Leader}
-use Rattle.replica_draft.specs.Draft.{Chooses, LearnsNext, SendsOnly, TakesTable, with_learned}
+use Rattle.replica_draft.specs.Draft.{Chooses, LearnsNext, SendsOnly, TakesRows, with_learned}
 use Rattle.replica_draft.specs.declared.change.Change.{Change}
 use Rattle.replica_draft.specs.declared.change.Change.TheVariants as change
 use Rattle.replica_draft.specs.declared.draft.Draft.{Draft}
@@ -179,7 +179,7 @@ flies-taken slot next (Leader ballot best (Some flight)) up flies = elim (cases_
   | inr here ↦ rw (le-ltb flight.slot slot here) (omega (arith, here, up, flies))
 ]
 
-pub steady-taken : (table : Table) (core : Core) (old new : Draft) (slot : ℕ) (rows : List JobRow) (machine : Option Launches) → TakesTable old new slot rows machine → old.change ≡ None → slot < 2 ^ 62
+pub steady-taken : (table : Table) (core : Core) (old new : Draft) (slot : ℕ) (rows : List JobRow) (machine : Option Launches) → TakesRows old new slot rows machine → old.change ≡ None → slot < 2 ^ 62
     → StandsFor table (unwrap_or machine core.machine) → (unwrap_or machine core.machine).rows ≡ rows → CountsBelow (2 ^ 31) rows → OpenHaveCursors rows → core.learner.base < slot → next_slot core.learner old ≤ slot
     → FliesAt (next_slot core.learner old) old.term → IsDraftSteady table core new
 steady-taken table core old new slot rows machine takes none low stands rows_are counts cursors past up flies =

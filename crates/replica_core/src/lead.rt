@@ -198,6 +198,13 @@ impl Core {
                 };
                 self.propose(draft, ballot, best, entry)
             }
+            Intent::Adopt { version } => {
+                let entry = Entry::Table {
+                    version,
+                    now: now.0,
+                };
+                self.propose(draft, ballot, best, entry)
+            }
             Intent::Rest => self.say_lead(draft, ballot),
         }
     }

@@ -8,7 +8,7 @@ use Rattle.paxos_base.specs.Durable.{after_delta}
 use Rattle.paxos_base.specs.Members.{has_majority, only_member, with_member}
 use Rattle.paxos_base.specs.Vote.{vote_at, votes_from}
 use Rattle.paxos_base.specs.declared.entry.Entry.{Entry}
-use Rattle.paxos_base.specs.declared.entry.Entry.TheVariants.{Noop, Start, End}
+use Rattle.paxos_base.specs.declared.entry.Entry.TheVariants.{Noop, Start, End, Table as TableEntry}
 use Rattle.paxos_base.specs.declared.entry.Vote.{Vote}
 use Rattle.paxos_base.specs.declared.rows.JobRow.{JobRow}
 use Rattle.term_core.specs.Term.{is_fourth}
@@ -299,6 +299,7 @@ wait_once ballot flight =
 follow_once : (self : Identity) (now : ℤ) (wanted : Intent) (ballot : ℕ) (best : List Vote) (state : State) → AskOnce (follow_intent self now wanted ballot best state)
 follow_once self now (intent.Call job at kind) ballot best state = inl (tt, tt)
 follow_once self now (intent.Start job at) ballot best state = propose_once self (proposal ballot best (prefix_of state) (Start job at now))
+follow_once self now (intent.Adopt version) ballot best state = propose_once self (proposal ballot best (prefix_of state) (TableEntry version now))
 follow_once self now intent.Rest ballot best state = inl (tt, tt)
 
 tick_once : (self : Identity) (now : ℤ) (wanted : Intent) (state : State) (term : Term) → AskOnce (tick_of self now wanted state term)

@@ -23,7 +23,7 @@ use Rattle.step_spec.proofs.VoteLemmas.{known-push}
 use Rattle.step_spec.specs.Message.{Message, Whom, Only, Known, Promise, Snap}
 use Rattle.step_spec.specs.State.{State, prefix_of}
 use Rattle.step_spec.specs.declared.out.LearntRow.{LearntRow}
-use Rattle.replica_draft.specs.Draft.{Desk, Goes, FixedParts, LearnsNext, HasSent, SendsOnly, TakesTable, calls_in, deltas_in, done, drafted, durable_of, entries_in, learned_with, said_by, said_in, said_of, with_best, with_learned}
+use Rattle.replica_draft.specs.Draft.{Desk, Goes, FixedParts, LearnsNext, HasSent, SendsOnly, TakesRows, calls_in, deltas_in, done, drafted, durable_of, entries_in, learned_with, said_by, said_in, said_of, with_best, with_learned}
 use Rattle.replica_draft.specs.declared.draft.Sent.{Sent}
 use Rattle.replica_draft.specs.declared.change.Change.{Change}
 use Rattle.replica_draft.specs.declared.change.Change.TheVariants as change
@@ -126,7 +126,7 @@ drafted-learn kept old new slot entry learns at =
     (rw (sym at) refl)
 
 -- a launch table is taken, where nothing is learned behind its slot
-pub drafted-rebase : (kept : FixedParts) (old new : Draft) (slot : ℕ) (rows : List JobRow) (machine : Option Launches) → TakesTable old new slot rows machine → old.change ≡ None
+pub drafted-rebase : (kept : FixedParts) (old new : Draft) (slot : ℕ) (rows : List JobRow) (machine : Option Launches) → TakesRows old new slot rows machine → old.change ≡ None
     → prefix_of (drafted kept old).state ≤ slot → drafted kept new ≡ done (Rebase slot rows ∷ []) (drafted kept old)
 unfolding after_act deltas_by learnt_by said_by calls_by
 drafted-rebase kept old new slot rows machine takes none up =

@@ -170,7 +170,7 @@ pub record LearnsNext (old new : Draft) (slot : ℕ) (entry : Entry) : Type 0 wh
 
 -- a draft has taken a launch table in the place of all entries below a slot, with a machine of it or none, and is else as it was;
 -- a flight below the slot is over
-pub record TakesTable (old new : Draft) (slot : ℕ) (rows : List JobRow) (machine : Option Launches) : Type 0 where
+pub record TakesRows (old new : Draft) (slot : ℕ) (rows : List JobRow) (machine : Option Launches) : Type 0 where
   pub seen : new.seen ≡ old.seen
   pub term : new.term ≡ after_advance slot old.term
   pub best : new.best ≡ old.best

@@ -4,7 +4,7 @@ ghost use Rattle.step_spec.specs.Heard.{old_vote, packets_of};
 ghost use Rattle.step_spec.specs.Message.{Message, Accept, Accepted, AskFrom, Known, Lead, Nack, Only, Others, Prepare, Promise};
 ghost use Rattle.term_core.specs.Term.{after_advance, after_ballot, after_proposal, after_tick, answer_to_proposal, answer_to_tick};
 ghost use Rattle.replica_draft.specs.declared.change.Change.TheVariants as change;
-ghost use Rattle.replica_draft.specs.Draft.{Chooses, Goes, LearnsNext, SendsOnly, TakesTable, has_copied, meant, said_in};
+ghost use Rattle.replica_draft.specs.Draft.{Chooses, Goes, LearnsNext, SendsOnly, TakesRows, has_copied, meant, said_in};
 
 use crate::change::{Change, Rebased, RebasedBox};
 use cluster_sched::SchedRow;
@@ -122,7 +122,7 @@ impl Draft {
         machine: Option<Machine>,
     ) -> Result<(), OutOfMemory>
         requires { self.old.change ≡ None }
-        ensures takes { OnOk result (TakesTable self.old self.new slot rows machine) }
+        ensures takes { OnOk result (TakesRows self.old self.new slot rows machine) }
     {
         let rebased = Rebased {
             slot,

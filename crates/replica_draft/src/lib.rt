@@ -1,6 +1,6 @@
 //! A step that is planned, beside a replica that stays as it is. The verbs of a `Draft` go on by acts of the
 //! definition in step_spec: what the draft stands for afterwards is what it stood for before, with those acts done
-//! (`Goes`; `LearnsNext` and `Chooses` if an entry is learned, `TakesTable` if a launch table comes in the place of
+//! (`Goes`; `LearnsNext` and `Chooses` if an entry is learned, `TakesRows` if a launch table comes in the place of
 //! entries, `HasSent` if much is sent at once). `write_letters` spells what was sent, to each replica at most one
 //! letter, byte for byte those of the acts (`Carry`), of which there is one list (`acts_have_one_list_of_letters`).
 //! `draft` has the verbs, `change` what changes on the disk, `tell` what is sent of entries and of a launch table,

@@ -1,5 +1,5 @@
 -- A job that may open on a date at an instant that the book passes is launched on it then, unless it's barred.
-use Rattle.std.proofs.Common.{◌≡◌, ◌⊎◌, ℕ, ◌<◌, ◌≤◌, Option, Some, None, List, ◌++◌, length, take, drop, ℤ, ◌≤ℤ◌, ◌<ℤ◌, refl, sym, ap, ◌∙◌, inl, inr, subst, arith}
+use Rattle.std.proofs.Common.{◌≡◌, ◌⊎◌, ℕ, ◌<◌, ◌≤◌, Option, Some, None, List, [], ◌++◌, length, take, drop, ℤ, ◌≤ℤ◌, ◌<ℤ◌, refl, sym, ap, ◌∙◌, inl, inr, subst, arith}
 use Rattle.std.specs.List.{Contains, slice_get}
 use Rattle.std.proofs.lemmas.Int.{ints, by_lt_z}
 use Rattle.std.proofs.lemmas.Option.{slice_get_within}
@@ -19,6 +19,7 @@ use Rattle.paxos_base.specs.declared.entry.Kind.TheVariants.{Launch, Void}
 use Rattle.paxos_base.specs.declared.rows.JobRow.{JobRow}
 use Rattle.cluster_sched.specs.declared.row.SchedRow.{SchedRow}
 use Rattle.launch_machine.specs.Clerk.{IsClerkOf, MayStart, first_force, first_rows, in_force}
+use Rattle.launch_machine.specs.Starts.{AdoptionsOf}
 use Rattle.launch_machine.specs.declared.force.InForce.{InForce}
 use Rattle.launch_machine.proofs.MachineLemmas.{may_start_on, opens_by_period}
 use Rattle.launch_safety.specs.Fits.{Fits, HasEnd, HasStart, IsEffective, IsHeld}
@@ -37,7 +38,8 @@ use Rattle.launch_safety.proofs.ReadLemmas.{held_by}
 use Rattle.run_outcome.proofs.SettledLemmas.{Passes}
 use Rattle.launch_safety.proofs.WholeReadings.{not_ahead}
 use Rattle.run_outcome.specs.Barred.{IsBarred, IsVoidedSooner}
-use Rattle.run_outcome.proofs.FrontLemmas.{front_log, held_on, table_at}
+use Rattle.run_outcome.specs.Whole.{AdoptsNone}
+use Rattle.run_outcome.proofs.FrontLemmas.{front_log, front_none, held_on, table_at}
 use Rattle.history.proofs.FrontLemmas.{front_legal}
 use Rattle.launch_safety.proofs.SettledLemmas.{row_of}
 
@@ -60,13 +62,16 @@ pub after_day : (at day shown : ℤ) → at ≡ day → at ≤ℤ shown → (sho
 after_day at day shown is come off =
     by_lt_z at shown (λ lt. omega (arith, ints, lt, is)) (λ ge. let same : shown ≡ at = omega (arith, ints, come, ge) in absurd (off same))
 
-module _ (n : ℕ) (table : Table) (book : List Row) (job : ℕ) (now date : ℤ) (few : n ≤ 7) (legal : IsLegal n table book) (by : OpensBy table (held_in n table book) job now date)
-    (passes : Passes n table now book) (log : List Entry) (is_log : IsLog n (votes_in passes.front) log) where
+module _ (n : ℕ) (table : Table) (book : List Row) (job : ℕ) (now date : ℤ) (few : n ≤ 7) (legal : IsLegal n table book) (adopts : AdoptsNone n table book)
+    (by : OpensBy table (held_in n table book) job now date) (passes : Passes n table now book) (log : List Entry) (is_log : IsLog n (votes_in passes.front) log) where
   abbrev opens : IsJobOpen table 0 job by.last by.last now date
   opens = by.opens
 
   front_is : IsLegal n table passes.front
   front_is = front_legal n table passes.front passes.back (subst (λ rows. IsLegal n table rows) passes.parts legal)
+
+  none : AdoptionsOf table log []
+  none = front_none n table book few legal adopts passes.front passes.back passes.parts log is_log
 
   fits : Fits table log (held_in n table passes.front)
   fits = whole n table passes.front few front_is log is_log
@@ -84,7 +89,7 @@ module _ (n : ℕ) (table : Table) (book : List Row) (job : ℕ) (now date : ℤ
   clerk = table_at n table passes.front log passes.who passes.asks.rows few front_is is_log passes.asks.rows_are
 
   first : first_force ≡ in_force table passes.asks.rows
-  first = sym (front_force n table passes.front few front_is log is_log (take known_to log) (drop known_to log) passes.asks.rows (sym whole_log) clerk)
+  first = sym (front_force n table passes.front few front_is log is_log none (take known_to log) (drop known_to log) passes.asks.rows (sym whole_log) clerk)
 
   ended : (day : ℤ) (kind : Kind) → HasEnd table (take known_to log) job day kind → HasEnd table log job day kind
   ended day kind end = subst (λ some. HasEnd table some job day kind) whole_log (IsEffective-more table (take known_to log) (drop known_to log) (End job day kind) end)
@@ -102,7 +107,7 @@ module _ (n : ℕ) (table : Table) (book : List Row) (job : ℕ) (now date : ℤ
       let row = found.row in
       let here : Contains (held_in n table book) row = still_held row found.among in
       let low : row.now.0 ≤ℤ now = held_by n table now passes.front row front_is passes.by found.among in
-      let backed : IsFirstBacked table log row = held_first n table passes.front log row few front_is is_log found.among in
+      let backed : IsFirstBacked table log row = held_first n table passes.front log row few front_is is_log none found.among in
       let is_in : IsJobIn table 0 row.name.job opens.job opens.zone = subst (λ number. IsJobIn table 0 number opens.job opens.zone) (sym found.of_job) opens.is_in in
       let on_time : day_number (local_of opens.zone row.now.0) ≡ row.name.at =
       subst (λ (k : JobKind). IsOnTime k opens.zone table.grace row.name.at row.now.0) opens.kind ((backed.kind opens.job opens.zone is_in).0 found.of_kind) in
@@ -125,7 +130,7 @@ module _ (n : ℕ) (table : Table) (book : List Row) (job : ℕ) (now date : ℤ
       let start : IsEffective table log (Start job day then) = subst (λ some. IsEffective table some (Start job day then)) whole_log (IsEffective-more table (take known_to log) (drop known_to log) (Start job day then) early) in
       let read : then ≤ℤ now = not_ahead n table passes.front log job day then now few front_is is_log start passes.by in
       let by_period = opens_by_period table job by.last by.last now date opens in
-      let began = may_start_on table job start.takes.2.row day then by_period (effective_may n table passes.front few front_is log is_log job day then start) in
+      let began = may_start_on table job start.takes.2.row day then by_period (effective_may n table passes.front few front_is log is_log none job day then start) in
       let shown : day ≡ day_number (local_of opens.zone then) =
       began.is_date ∙ ap day_number (same_local table 0 job began.job opens.job began.zone opens.zone then began.is_in opens.is_in) in
       let there = front_log n table book few legal passes.front passes.back log passes.parts is_log in
@@ -150,7 +155,7 @@ module _ (n : ℕ) (table : Table) (book : List Row) (job : ℕ) (now date : ℤ
       let found : IsHeld (held_in n table passes.front) job day Void = fits.ended job day Void end in
       let row = found.row in
       let read : row.now.0 ≤ℤ now = held_by n table now passes.front row front_is passes.by found.among in
-      let backed : IsFirstBacked table log row = held_first n table passes.front log row few front_is is_log found.among in
+      let backed : IsFirstBacked table log row = held_first n table passes.front log row few front_is is_log none found.among in
       let is_in : IsJobIn table 0 row.name.job opens.job opens.zone = subst (λ number. IsJobIn table 0 number opens.job opens.zone) (sym found.of_job) opens.is_in in
       let spec = same_job table 0 row.name.job backed.spec opens.job backed.is_in.is_job is_in.is_job in
       let come_there : row.name.at ≤ℤ day_number (local_of backed.zone row.now.0) =
@@ -262,8 +267,8 @@ module _ (n : ℕ) (table : Table) (book : List Row) (job : ℕ) (now date : ℤ
   with_log =
       let found = row_of table (take known_to log) passes.asks.rows job clerk known in by_row found.0 found.1 found.0.cursor found.0.open_now refl refl
 
-pub on_date : (n : ℕ) (table : Table) (book : List Row) (job : ℕ) (now date : ℤ) → n ≤ 7 → IsLegal n table book → OpensBy table (held_in n table book) job now date → Passes n table now book
-    → IsCalledAt (held_in n table book) job date Launch now ⊎ IsBarred n table book job now date
-on_date n table book job now date few legal by passes =
+pub on_date : (n : ℕ) (table : Table) (book : List Row) (job : ℕ) (now date : ℤ) → n ≤ 7 → IsLegal n table book → AdoptsNone n table book → OpensBy table (held_in n table book) job now date
+    → Passes n table now book → IsCalledAt (held_in n table book) job date Launch now ⊎ IsBarred n table book job now date
+on_date n table book job now date few legal adopts by passes =
     let (log, is_log) = book_log n table passes.front few (front_legal n table passes.front passes.back (subst (λ rows. IsLegal n table rows) passes.parts legal)) in
-    with_log n table book job now date few legal by passes log is_log
+    with_log n table book job now date few legal adopts by passes log is_log

@@ -19,9 +19,12 @@ use Rattle.history.specs.Legal.{IsLegal}
 use Rattle.history.proofs.Agreement.{book_log}
 use Rattle.launch_safety.specs.Fitting.{held_in}
 use Rattle.launch_safety.proofs.LogLemmas.{log_goes_on}
+use Rattle.launch_safety.proofs.Whole.{front_adopts, table_left}
 use Rattle.launch_safety.specs.Readings.{AreTurnsBy, IsTurnBy}
 use Rattle.launch_safety.proofs.ReadLemmas.{stays_held}
 use Rattle.history.proofs.BookLemmas.{stands}
+use Rattle.history.proofs.FrontLemmas.{front_legal}
+use Rattle.run_outcome.specs.Whole.{AdoptsNone}
 
 -- the log of a book goes on from that of a front
 pub record FrontLog (n : ℕ) (book : List Row) (log : List Entry) : Type 0 where
@@ -46,6 +49,13 @@ front_log n table book few legal front back log parts is_log =
     let (whole, is_whole) = book_log n table book few legal in
     let on = log_on n table book few legal front back log whole parts is_log is_whole in
     record { whole = whole; is_whole = is_whole; more = on.0; goes = on.1 }
+
+-- a front of a book that adopts no version adopts none
+pub front_none : (n : ℕ) (table : Table) (book : List Row) → n ≤ 7 → IsLegal n table book → AdoptsNone n table book → (front back : List Row) → book ≡ front ++ back → AdoptsNone n table front
+front_none n table book few legal none front back parts log is_log =
+    let there = front_log n table book few legal front back log parts is_log in
+    let left = table_left n table front log few (front_legal n table front back (subst (λ rows. IsLegal n table rows) parts legal)) is_log in
+    front_adopts n table book few legal there.whole there.is_whole (none there.whole there.is_whole) log there.more left.0 there.goes left.1
 
 -- what is held after a front is held after the book
 pub held_on : (n : ℕ) (table : Table) (book front back : List Row) (row : SchedRow) → book ≡ front ++ back → Contains (held_in n table front) row → Contains (held_in n table book) row

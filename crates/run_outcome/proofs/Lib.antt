@@ -9,12 +9,16 @@
 --   `parts_come`, `walks_come`, `latest_by`, `each_by`).
 -- - While it settles or drains at a minute, all clocks are right and read it (`DrainLemmas`: `settles_by`,
 --   `drains_by`).
--- - If a replica's launch table asks for nothing at an instant, each due instant up to it has ended in the log
---   (`SettledLemmas`: `table_of`, `over`).
+-- - The whole log has nothing left to do at the window's last minute, so each due instant, by the versions in force
+--   then, has ended in it (`ScriptLemmas`: `script_settled`; `SettledLemmas`: `ended`).
+-- - If a replica's launch table asks for nothing at an instant, and the log adopts no version, each due instant up to
+--   it has ended in the log (`SettledLemmas`: `table_of`, `over`).
 -- - A walk past an instant comes to such a table at it before a clock reads a later one: it is drained there, or
 --   asks for nothing there (`WalkWhole`: `walks_past`, `passes`).
--- - So the row that is held for it was called no later and no sooner than at it, and its kind is a launch; with long
---   grace that holds of each row (`SettledLemmas`: `called`, `launched`).
+-- - So the row that is held for it was called no later and no sooner than at it, and its kind is a launch
+--   (`SettledLemmas`: `called`).
+-- - A job without a `/` in its name is started at due instants alone, by the version in force then, so that with long
+--   grace each row that is held of one is a launch (`SettledLemmas`: `started_due`, `launched`).
 -- - Three rounds drain a minute of a job that is due at each: its start, its call, its end (`SomeRounds`:
 --   `launches`; `SomeWalk`: `some_walk`).
 --
@@ -28,6 +32,16 @@
 -- - Each minute of a walk is drained by one that leads, and after the last of them nothing is asked for
 --   (`WalkLemmas`: `walked_in`, `led_until`).
 -- - The walk after a script is a walk from what the script has left (`ScriptLemmas`: `walks_behind`, `script_ends`).
+--
+-- A due instant, by the versions in force then, that no clock of the script has passed is called at it:
+-- - The walk past it is one to it, which goes on; behind that each clock reads a later instant (`AtOnceLemmas`:
+--   `walk_stops`, `walks_after`).
+-- - So the book ends quietly there, and the log that it has by then is settled at the instant (`AtOnceLemmas`: `quiet`,
+--   `settled`).
+-- - A version that is adopted behind that log was asked for in a turn that reads a later instant: by one before it the
+--   version would have been adopted there (`AtOnceLemmas`: `front_late`, `back_late`, `adopted_late`).
+-- - So the versions in force up to the instant are those of that log, in which each due instant has ended; its row was
+--   called at it (`AtOnceLemmas`: `same_version`, `called_upto`, `called_on`).
 --
 -- All of it as one definition:
 -- - Each part is a law of a crate below: history's, launch_safety's, run_outcome's and run_outcome's (`WholeLemmas`:
@@ -60,6 +74,7 @@
 --   `opened_by`).
 -- - Three rounds drain the minute of a job that may open: its start, its call, its end (`SomeDaily`: `opens`;
 --   `SomeTurns`: `starts`, `calls`, `ends`; `SomeDate`: `launches`, `some_date`).
+pub mod AtOnceLemmas
 pub mod DateLemmas
 pub mod DrainLemmas
 pub mod FrontLemmas

@@ -25,12 +25,13 @@ use Rattle.history.specs.Legal.{IsLegal}
 use Rattle.history.proofs.Agreement.{book_log}
 use Rattle.launch_safety.specs.Fitting.{held_in}
 use Rattle.launch_safety.proofs.Whole.{held_first, whole}
+use Rattle.run_outcome.specs.Whole.{AdoptsNone}
 use Rattle.run_outcome.specs.Barred.{IsBarred, IsStartedLater, IsVoidedSooner}
 use Rattle.run_outcome.proofs.DateLemmas.{later_than_each}
 use Rattle.run_outcome.proofs.Minutes.{AllDrained}
 use Rattle.run_outcome.proofs.Unscripted.{called_then, in_order, opens}
 
-module _ (n : ℕ) (table : Table) (rows : List Row) (few : n ≤ 7) (legal : IsLegal n table rows) (known : AllDrained n table rows) where
+module _ (n : ℕ) (table : Table) (rows : List Row) (few : n ≤ 7) (legal : IsLegal n table rows) (adopts : AdoptsNone n table rows) (known : AllDrained n table rows) where
   abbrev held : List SchedRow
   held = held_in n table rows
 
@@ -38,7 +39,7 @@ module _ (n : ℕ) (table : Table) (rows : List Row) (few : n ≤ 7) (legal : Is
 
   not_started : (job : ℕ) (now date : ℤ) → IsRunByPeriod table job → OpensBy table held job now date → IsStartedLater n table rows job now date → ⊥
   not_started job now date by_period by started =
-      let call = called_then n table rows few legal known started.log started.is_log job started.day started.then started.start by_period in
+      let call = called_then n table rows few legal adopts known started.log started.is_log job started.day started.then started.start by_period in
       let before = later_than_each table held job now date started.day started.then by call started.sooner in
       let later = started.later in
       omega (arith, ints, before, later)
@@ -51,8 +52,8 @@ module _ (n : ℕ) (table : Table) (rows : List Row) (few : n ≤ 7) (legal : Is
     pub started_row : (row : SchedRow) → IsRunByPeriod table row.name.job → Contains held row
         → (now : ℤ) × IsEffective table log (Start row.name.job row.name.at now) × (row.kind ≡ Launch) × (row.now.0 ≡ now)
     started_row row by_period has =
-        let (now, start) = (held_first n table rows log row few legal is_log has).start in
-        let call = called_then n table rows few legal known log is_log row.name.job row.name.at now start by_period in
+        let (now, start) = (held_first n table rows log row few legal is_log (adopts log is_log) has).start in
+        let call = called_then n table rows few legal adopts known log is_log row.name.job row.name.at now start by_period in
         let same : call.row ≡ row = held_once table log held call.row row fits call.among has call.of_job call.due_at in
         (now, start, sym (ap (λ (r : SchedRow). r.kind) same) ∙ call.of_kind, sym (ap (λ (r : SchedRow). r.now.0) same) ∙ call.called)
 
@@ -77,7 +78,7 @@ module _ (n : ℕ) (table : Table) (rows : List Row) (few : n ≤ 7) (legal : Is
       row = start.takes.2.row
 
       opened : IsJobOpen table 0 job row.last row.cursor now at
-      opened = opens n table rows few legal known log is_log job at now start by_period
+      opened = opens n table rows few legal adopts known log is_log job at now start by_period
 
       dated : IsDated table start.before job row.cursor row.open_now row.last
       dated = clerk_dates table start.before start.takes.0 job start.takes.2.known start.takes.1 row start.takes.2.is_row
@@ -101,7 +102,7 @@ module _ (n : ℕ) (table : Table) (rows : List Row) (few : n ≤ 7) (legal : Is
       launched_before : (date then : ℤ) → IsCalledAt held job date Launch then → then <ℤ now → (last : ℤ) × (row.last ≡ Some last) × (date ≤ℤ last)
       launched_before date then call sooner =
           let first = (start_of job date then Launch by_period call).0 in
-          let order = in_order n table rows few legal known log is_log job job date at then now first start sooner in
+          let order = in_order n table rows few legal adopts known log is_log job job date at then now first start sooner in
           let before = before_it (Start job date then) first order in
           let (kind, end) = (dated.started date (then, before)).idle start.takes.2.idle in
           let found : IsHeld held job date kind = fits.ended job date kind (in_log (End job date kind) end) in
@@ -121,7 +122,7 @@ module _ (n : ℕ) (table : Table) (rows : List Row) (few : n ≤ 7) (legal : Is
             parts = start.parts ∙ ap (λ some. some ++ Start job at now ∷ start.after) before.parts ∙ append_assoc before.before (Start job last then ∷ before.after) (Start job at now ∷ start.after);
             takes = before.takes;
           } in
-          let earlier = opens n table rows few legal known log is_log job last then first by_period in
+          let earlier = opens n table rows few legal adopts known log is_log job last then first by_period in
           let cursor = dated.started last (then, before) in
           let below : last <ℤ at =
           (let after : cursor.at <ℤ day_number (local_of opened.zone now) = subst (λ (o : Option ℤ). IsAfter o (day_number (local_of opened.zone now))) cursor.is opened.may.on.later in
@@ -135,12 +136,12 @@ module _ (n : ℕ) (table : Table) (rows : List Row) (few : n ≤ 7) (legal : Is
           let here : last ≡ at = shown ∙ ap (λ instant. day_number (local_of opened.zone instant)) same ∙ sym opened.is_date in
           omega (arith, ints, below, here)) in (
             then,
-            called_then n table rows few legal known log is_log job last then first by_period,
+            called_then n table rows few legal adopts known log is_log job last then first by_period,
             by_lt_z then now
                 (λ lt. lt)
                 (λ ge. by_lt_z now then
                 (λ behind. absurd (
-                let order = in_order n table rows few legal known log is_log job job at last now then start first behind in
+                let order = in_order n table rows few legal adopts known log is_log job job at last now then start first behind in
                 let long : length start.before ≡ length (before.before ++ Start job last then ∷ before.after) = ap length before.parts in
                 omega (arith, order, long, length-append before.before (Start job last then ∷ before.after))
                 ))

@@ -17,13 +17,15 @@ use Rattle.history.specs.Legal.{IsLegal}
 use Rattle.history.proofs.Agreement.{book_log}
 use Rattle.launch_safety.specs.Fitting.{held_in}
 use Rattle.launch_safety.proofs.Whole.{IsFirstBacked, effective_may, held_first}
+use Rattle.run_outcome.specs.Whole.{AdoptsNone}
 use Rattle.run_outcome.specs.Barred.{IsBarred, IsStartedLater, IsVoidedSooner, ShowedLater}
 use Rattle.run_outcome.proofs.DateLemmas.{after_day, not_both}
 
-started_passed : (members : ℕ) (table : Table) (rows : List Row) (job : ℕ) (now date : ℤ) → members ≤ 7 → IsLegal members table rows → IsRunByPeriod table job → IsStartedLater members table rows job now date → ShowedLater table job now date
-started_passed members table rows job now date few legal by started =
+started_passed : (members : ℕ) (table : Table) (rows : List Row) (job : ℕ) (now date : ℤ) → members ≤ 7 → IsLegal members table rows → AdoptsNone members table rows → IsRunByPeriod table job
+    → IsStartedLater members table rows job now date → ShowedLater table job now date
+started_passed members table rows job now date few legal adopts by started =
     let opens = may_start_on table job started.start.takes.2.row started.day started.then by
-    (effective_may members table rows few legal started.log started.is_log job started.day started.then started.start) in
+    (effective_may members table rows few legal started.log started.is_log (adopts started.log started.is_log) job started.day started.then started.start) in
     let later = started.later in
     let is = opens.is_date in
     record { spec = opens.job; zone = opens.zone; is_in = opens.is_in; then = started.then; sooner = started.sooner; later = omega (arith, ints, later, is) }
@@ -41,12 +43,12 @@ module _ (table : Table) (log : List Entry) (row : SchedRow) (backed : IsFirstBa
       (subst (λ (k : JobKind). IsOnTime k backed.zone table.grace row.name.at row.now.0) (sym is) same)))
   void_shown other is by = absurd by
 
-voided_passed : (members : ℕ) (table : Table) (rows : List Row) (job : ℕ) (now date : ℤ) → members ≤ 7 → IsLegal members table rows → IsRunByPeriod table job
+voided_passed : (members : ℕ) (table : Table) (rows : List Row) (job : ℕ) (now date : ℤ) → members ≤ 7 → IsLegal members table rows → AdoptsNone members table rows → IsRunByPeriod table job
     → IsVoidedSooner (held_in members table rows) job now date → ShowedLater table job now date
-voided_passed members table rows job now date few legal by voided =
+voided_passed members table rows job now date few legal adopts by voided =
     let row = voided.void.row in
     let (log, is_log) = book_log members table rows few legal in
-    let backed : IsFirstBacked table log row = held_first members table rows log row few legal is_log voided.void.among in
+    let backed : IsFirstBacked table log row = held_first members table rows log row few legal is_log (adopts log is_log) voided.void.among in
     let runs : IsRunByPeriod table row.name.job = subst (IsRunByPeriod table) (sym voided.void.of_job) by in
     let shown = void_shown table log row backed voided.void.of_kind backed.spec.kind refl (IsRunByPeriod-kind table row.name.job backed.spec backed.is_in.is_job runs) in
     let day = voided.void.due_at in
@@ -62,7 +64,7 @@ voided_passed members table rows job now date few legal by voided =
       later = omega (arith, ints, shown, day, reached);
     }
 
-pub barred_passed : (members : ℕ) (table : Table) (rows : List Row) (job : ℕ) (now date : ℤ) → members ≤ 7 → IsLegal members table rows → IsRunByPeriod table job
+pub barred_passed : (members : ℕ) (table : Table) (rows : List Row) (job : ℕ) (now date : ℤ) → members ≤ 7 → IsLegal members table rows → AdoptsNone members table rows → IsRunByPeriod table job
     → IsBarred members table rows job now date → ShowedLater table job now date
-barred_passed members table rows job now date few legal by (inl started) = started_passed members table rows job now date few legal by started
-barred_passed members table rows job now date few legal by (inr voided) = voided_passed members table rows job now date few legal by voided
+barred_passed members table rows job now date few legal adopts by (inl started) = started_passed members table rows job now date few legal adopts by started
+barred_passed members table rows job now date few legal adopts by (inr voided) = voided_passed members table rows job now date few legal adopts by voided

@@ -1,5 +1,5 @@
 -- What a whole run says, part by part.
-use Rattle.std.proofs.Common.{◌≡◌, ◌≢◌, ℕ, ◌<◌, ◌≤◌, List, [], ◌∷◌, ◌++◌, true, take, length, ℤ, pos, ◌-ℤ◌, subst}
+use Rattle.std.proofs.Common.{◌≡◌, ◌≢◌, ℕ, ◌<◌, ◌≤◌, List, ◌∷◌, ◌++◌, true, take, length, ℤ, pos, ◌-ℤ◌, subst}
 use Rattle.std.specs.List.{Contains}
 use Rattle.std.proofs.lemmas.List.Elements.{All-contains}
 use Rattle.paxos_base.specs.declared.entry.Entry.{Entry}
@@ -7,23 +7,24 @@ use Rattle.paxos_base.specs.declared.entry.Entry.TheVariants.{Noop}
 use Rattle.paxos_base.specs.declared.entry.Kind.{Kind}
 use Rattle.paxos_base.specs.declared.entry.Kind.TheVariants.{Launch}
 use Rattle.paxos_base.specs.declared.rows.JobRow.{JobRow}
-use Rattle.due_set.specs.Table.{IsJobDue, Table}
+use Rattle.due_set.specs.Table.{Table}
 use Rattle.cluster_sched.specs.declared.row.SchedRow.{SchedRow}
-use Rattle.launch_machine.specs.Clerk.{IsClerkOf, first_rows, NoStart}
+use Rattle.launch_machine.specs.Clerk.{IsClerkOf, first_rows, NoStart, NoTable}
 use Rattle.launch_machine.specs.Intent.{NoCall}
 use Rattle.launch_machine.specs.Starts.{AdoptionsOf}
+use Rattle.launch_machine.specs.Versions.{IsDueUnder}
 use Rattle.launch_machine.proofs.ClerkLemmas.{AppliesAll-same}
-use Rattle.launch_safety.specs.Fits.{HasEnd, HasStart, IsBacked, IsHeld, StartsInOrder, TakesEffectAfter}
+use Rattle.launch_safety.specs.Fits.{AreAdoptions, HasEnd, HasStart, IsBacked, IsHeld, StartsInOrder, TakesEffectAfter}
 use Rattle.launch_safety.specs.Launched.{IsCalledAt}
 use Rattle.launch_safety.proofs.FitLemmas.{held_once}
-use Rattle.launch_safety.proofs.Whole.{no_adoptions}
+use Rattle.launch_safety.proofs.VersionLemmas.{are_adoptions}
 use Rattle.script_text.specs.declared.command.Command.{Command}
 use Rattle.step_spec.specs.State.{prefix_of}
 use Rattle.agreement.specs.Agree.{IsChosen}
 use Rattle.agreement.specs.Log.{FollowsLog, IsLog}
 use Rattle.agreement.specs.World.{Learning}
 use Rattle.history.specs.Book.{Row, learned_in, standing_after, votes_in}
-use Rattle.history.proofs.Agreement.{book_one_log, cut_is_legal}
+use Rattle.history.proofs.Agreement.{book_one_log}
 use Rattle.launch_safety.specs.Fitting.{held_in}
 use Rattle.run_outcome.specs.Readings.{IsGraceLong, script_turns}
 use Rattle.launch_safety.specs.Readings.{AreTurnsBy}
@@ -67,16 +68,16 @@ pub said_order : (members : ℕ) (table : Table) (script : List Command) (rows :
     → IsLog members (votes_in (take turns rows)) log → StartsInOrder table log job
 said_order members table script rows turns log job whole is_log = (whole.fits turns log is_log).in_order job
 
-pub said_plain : (members : ℕ) (table : Table) (script : List Command) (rows : List Row) (turns : ℕ) (log : List Entry) → members ≤ 7 → IsWholeRun members table script rows
-    → IsLog members (votes_in (take turns rows)) log → AdoptionsOf table log []
-said_plain members table script rows turns log few whole is_log =
-    no_adoptions members table (take turns rows) log few (cut_is_legal members table rows turns whole.legal) is_log
-
 -- ---- at the end
 
 -- there is one log
 the_log : (members : ℕ) (table : Table) (script : List Command) (rows : List Row) (log : List Entry) → members ≤ 7 → (whole : IsWholeRun members table script rows) → IsLog members (votes_in rows) log → whole.log ≡ log
 the_log members table script rows log few whole is_log = book_one_log members table rows whole.log log few whole.legal whole.is_log is_log
+
+pub said_adopted : (members : ℕ) (table : Table) (script : List Command) (rows : List Row) (log : List Entry) → members ≤ 7 → (whole : IsWholeRun members table script rows) → IsLog members (votes_in rows) log
+    → AdoptionsOf table log whole.adoptions × AreAdoptions table whole.adoptions
+said_adopted members table script rows log few whole is_log =
+    (subst (λ (other : List Entry). AdoptionsOf table other whole.adoptions) (the_log members table script rows log few whole is_log) whole.adopted, are_adoptions table whole.log whole.adoptions whole.adopted)
 
 pub said_learned : (members : ℕ) (table : Table) (script : List Command) (rows : List Row) (log : List Entry) (who : ℕ) → members ≤ 7 → IsWholeRun members table script rows → IsLog members (votes_in rows) log
     → who < members → prefix_of ((standing_after members (first_rows table) rows).replicas who) ≡ length log
@@ -91,30 +92,31 @@ said_effective members table script rows log before after entry few whole is_log
 
 pub said_settled : (members : ℕ) (table : Table) (script : List Command) (rows : List Row) (log : List Entry) (launch : List JobRow) → members ≤ 7 → IsWholeRun members table script rows
     → IsLog members (votes_in rows) log → IsClerkOf table log launch
-    → NoCall table launch (table.window.until.0 -ℤ pos 1) × NoStart table launch (table.window.until.0 -ℤ pos 1)
+    → NoCall table launch (table.window.until.0 -ℤ pos 1) × NoStart table launch (table.window.until.0 -ℤ pos 1) × NoTable table launch (table.window.until.0 -ℤ pos 1)
 said_settled members table script rows log launch few whole is_log clerk =
     let rests = whole.settled in
     let same = AppliesAll-same table (first_rows table) log rests.rows launch
     (subst (λ (other : List Entry). IsClerkOf table other rests.rows) (the_log members table script rows log few whole is_log) rests.clerk) clerk in (
       subst (λ (rows : List JobRow). NoCall table rows (table.window.until.0 -ℤ pos 1)) same rests.no_call,
       subst (λ (rows : List JobRow). NoStart table rows (table.window.until.0 -ℤ pos 1)) same rests.no_start,
+      subst (λ (rows : List JobRow). NoTable table rows (table.window.until.0 -ℤ pos 1)) same rests.no_table,
     )
 
-pub said_ended : (members : ℕ) (table : Table) (script : List Command) (rows : List Row) (log : List Entry) (job : ℕ) (at : ℤ) → members ≤ 7 → IsWholeRun members table script rows
-    → IsLog members (votes_in rows) log → IsJobDue table 0 job at → HasStart table log job at × (kind : Kind) × HasEnd table log job at kind
+pub said_ended : (members : ℕ) (table : Table) (script : List Command) (rows : List Row) (log : List Entry) (job : ℕ) (at : ℤ) → members ≤ 7 → (whole : IsWholeRun members table script rows)
+    → IsLog members (votes_in rows) log → IsDueUnder table whole.adoptions job at → HasStart table log job at × (kind : Kind) × HasEnd table log job at kind
 said_ended members table script rows log job at few whole is_log due =
     subst (λ (other : List Entry). HasStart table other job at × (kind : Kind) × HasEnd table other job at kind) (the_log members table script rows log few whole is_log) (whole.ended job at due)
 
-pub said_later : (members : ℕ) (table : Table) (script : List Command) (rows : List Row) (whole : IsWholeRun members table script rows) (job : ℕ) (at : ℤ) → IsJobDue table 0 job at
+pub said_later : (members : ℕ) (table : Table) (script : List Command) (rows : List Row) (whole : IsWholeRun members table script rows) (job : ℕ) (at : ℤ) → IsDueUnder table whole.adoptions job at
     → AreTurnsBy at (script_turns whole.obeyed) → IsHeld (held_in members table rows) job at Launch
 said_later members table script rows whole job at due by =
     let called = whole.later job at due by in
     record { row = called.row; among = called.among; of_job = called.of_job; due_at = called.due_at; of_kind = called.of_kind }
 
-pub said_at_once : (members : ℕ) (table : Table) (script : List Command) (rows : List Row) (whole : IsWholeRun members table script rows) (job : ℕ) (at : ℤ) → IsJobDue table 0 job at
+pub said_at_once : (members : ℕ) (table : Table) (script : List Command) (rows : List Row) (whole : IsWholeRun members table script rows) (job : ℕ) (at : ℤ) → IsDueUnder table whole.adoptions job at
     → AreTurnsBy at (script_turns whole.obeyed) → IsCalledAt (held_in members table rows) job at Launch at
 said_at_once members table script rows whole job at = whole.later job at
 
-pub said_all : (members : ℕ) (table : Table) (script : List Command) (rows : List Row) (job : ℕ) (at : ℤ) → IsWholeRun members table script rows → IsGraceLong table → IsJobDue table 0 job at
-    → IsHeld (held_in members table rows) job at Launch
+pub said_all : (members : ℕ) (table : Table) (script : List Command) (rows : List Row) (job : ℕ) (at : ℤ) → (whole : IsWholeRun members table script rows) → IsGraceLong table
+    → IsDueUnder table whole.adoptions job at → IsHeld (held_in members table rows) job at Launch
 said_all members table script rows job at whole long = whole.all long job at

@@ -6,8 +6,10 @@ use Rattle.zone_minutes.specs.Window.{IsInWindow}
 use Rattle.paxos_base.specs.declared.entry.Entry.{Entry}
 use Rattle.paxos_base.specs.declared.rows.JobRow.{JobRow}
 use Rattle.due_set.specs.Table.{IsSound, Table}
-use Rattle.launch_machine.specs.Clerk.{IsClerkOf, NoStart}
+use Rattle.launch_machine.specs.Clerk.{IsClerkOf, NoStart, NoTable}
 use Rattle.launch_machine.specs.Intent.{NoCall}
+use Rattle.launch_safety.specs.Settled.{IsSettled}
+use Rattle.launch_safety.proofs.Whole.{table_left}
 use Rattle.script_text.specs.declared.command.Command.{Command}
 use Rattle.step_spec.specs.State.{prefix_of}
 use Rattle.agreement.specs.Log.{IsLog}
@@ -17,7 +19,7 @@ use Rattle.script_semantics.specs.Script.{Obeys}
 use Rattle.script_semantics.specs.Settling.{AsksNothingUntil, Settles, Walks, coordinator}
 use Rattle.script_semantics.specs.Situation.{Situation, first_situation}
 use Rattle.settling.specs.Quiet.{EndsQuietly}
-use Rattle.settling.proofs.QuietEndLemmas.{quiet_calls, quiet_learned, quiet_starts}
+use Rattle.settling.proofs.QuietEndLemmas.{quiet_calls, quiet_learned, quiet_starts, quiet_tables}
 use Rattle.settling.specs.Rounds.{IsWithinBounds}
 use Rattle.settling.proofs.SettleLeadLemmas.{now_ends}
 use Rattle.run_outcome.specs.Readings.{script_end}
@@ -160,3 +162,23 @@ pub script_starts : (members : ℕ) (table : Table) (script : List Command) (row
 script_starts members table script rows obeyed log launch some few sound legal limits is_log clerk =
     quiet_starts members table rows (coordinator members (script_end obeyed)) (table.window.until.0 -ℤ pos 1) obeyed.after log launch
     (script_ends members table script rows obeyed log some few sound legal limits is_log) clerk
+
+pub script_tables : (members : ℕ) (table : Table) (script : List Command) (rows : List Row) (obeyed : Obeys members table script rows) (log : List Entry) (launch : List JobRow) → 1 ≤ members → members ≤ 7 → IsSound table
+    → IsLegal members table rows → IsWithinBounds rows obeyed.after.standing.posted → IsLog members (votes_in rows) log → IsClerkOf table log launch
+    → NoTable table launch (table.window.until.0 -ℤ pos 1)
+script_tables members table script rows obeyed log launch some few sound legal limits is_log clerk =
+    quiet_tables members table rows (coordinator members (script_end obeyed)) (table.window.until.0 -ℤ pos 1) obeyed.after log launch
+    (script_ends members table script rows obeyed log some few sound legal limits is_log) clerk
+
+-- so the log has nothing left to do
+pub script_settled : (members : ℕ) (table : Table) (script : List Command) (rows : List Row) (obeyed : Obeys members table script rows) (log : List Entry) → 1 ≤ members → members ≤ 7 → IsSound table
+    → IsLegal members table rows → IsWithinBounds rows obeyed.after.standing.posted → IsLog members (votes_in rows) log → IsSettled table log (table.window.until.0 -ℤ pos 1)
+script_settled members table script rows obeyed log some few sound legal limits is_log =
+    let (launch, clerk) = table_left members table rows log few legal is_log in
+    record {
+      rows = launch;
+      clerk = clerk;
+      no_call = script_calls members table script rows obeyed log launch some few sound legal limits is_log clerk;
+      no_start = script_starts members table script rows obeyed log launch some few sound legal limits is_log clerk;
+      no_table = script_tables members table script rows obeyed log launch some few sound legal limits is_log clerk;
+    }

@@ -24,7 +24,7 @@ use Rattle.paxos_base.specs.Rows.{fresh_row}
 use Rattle.paxos_base.specs.declared.rows.JobRow.{JobRow}
 use Rattle.cluster_sched.specs.declared.row.SchedRow.{SchedRow}
 use Rattle.launch_machine.specs.Answers.{IsCallKind, IsIntent}
-use Rattle.launch_machine.specs.Clerk.{Applies, AppliesAll, MayStart, TakesStart, first_force, first_rows, NoStart}
+use Rattle.launch_machine.specs.Clerk.{Applies, AppliesAll, MayStart, TakesStart, first_force, first_rows, NoStart, NoTable}
 use Rattle.launch_machine.specs.Intent.{NoCall}
 use Rattle.launch_machine.specs.declared.machine.Intent.TheVariants as intent
 use Rattle.launch_machine.proofs.StartLemmas.{may_start_later}
@@ -194,8 +194,12 @@ no_start zero at takes =
     omega (arith, ints, date, later)
 no_start (suc job) at takes = let below : suc job < 1 = takes.known in omega (arith, below)
 
+-- the table has one version
+no_table : NoTable daily (with_table over) now
+no_table version takes = omega (arith, takes.next, takes.known)
+
 pub rest_asked : IsIntent daily (with_table over) now intent.Rest
-rest_asked = (no_call over now refl, no_start)
+rest_asked = (no_call over now refl, no_start, no_table)
 
 pub is_open_then : is_open 0 today (with_table opened) ≡ true
 is_open_then = (Decides-int_eq today today).1 refl

@@ -30,6 +30,8 @@ use Rattle.script_semantics.specs.Parts.{Then}
 use Rattle.script_semantics.specs.Situation.{Performs, Situation, Task, Do, after_turn, delivered, first_situation}
 use Rattle.history.proofs.Asks.{with_table}
 use Rattle.run_outcome.proofs.SomeDaily.{applied_end, applied_none, applied_start, call_asked, call_row, daily, idle, now, opened, opens, over, rest_asked, sound, start_asked, today}
+use Rattle.launch_safety.proofs.Whole.{no_adoptions}
+use Rattle.run_outcome.specs.Whole.{AdoptsNone}
 use Rattle.run_outcome.proofs.SomeTurns.{Has, Move, calls, delivers, ended_state, ends, leads, new, rests, started_state, starts, tick_now}
 use Rattle.due_set.proofs.Rising.{Contains-cases as cons_cases}
 
@@ -300,6 +302,10 @@ one_book = append_assoc restarted.rows led.rows launched.rows
 is_legal : IsLegal 1 daily some_rows
 is_legal = subst (λ rows. IsLegal 1 daily rows) one_book launched.has.legal
 
+-- the table has one version
+adopts_none : AdoptsNone 1 daily some_rows
+adopts_none log is_log = no_adoptions 1 daily some_rows log (omega arith) is_legal is_log refl
+
 held_is : held_in 1 daily some_rows ≡ call_row ∷ []
 held_is =
     sym (ap (λ rows. held_in 1 daily rows) one_book) ∙ sym (ap (λ (st : Standing). st.held) launched.has.of_book) ∙ launched.has.held_are
@@ -315,5 +321,5 @@ none_sooner date then call sooner = elim (cons_cases call_row [] call.row (subst
 ]
 
 pub some_date : (table : Table) × (rows : List Row) × (job : ℕ) × (now : ℤ) × (date : ℤ)
-    × IsSound table × IsLegal 1 table rows × Obeys 1 table [] rows × OpensBy table (held_in 1 table rows) job now date
-some_date = (daily, some_rows, 0, now, today, sound, is_legal, obeyed, record { last = None; latest = none_sooner; opens = opens })
+    × IsSound table × IsLegal 1 table rows × Obeys 1 table [] rows × AdoptsNone 1 table rows × OpensBy table (held_in 1 table rows) job now date
+some_date = (daily, some_rows, 0, now, today, sound, is_legal, obeyed, adopts_none, record { last = None; latest = none_sooner; opens = opens })

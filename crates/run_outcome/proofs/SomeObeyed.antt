@@ -30,7 +30,7 @@ within_bounds rows posted few none = record {
 pub some_obeyed : (table : Table) × (script : List Command) × (rows : List Row) × (obeyed : Obeys 1 table script rows)
     × IsSound table × IsLegal 1 table rows × IsWithinBounds rows obeyed.after.standing.posted × (0 < length (script_turns obeyed))
 some_obeyed =
-    let (table, script, rows, obeyed, job, at, later, sound, legal, long, due, due_later, order, by, turns, few, none) = some_walk in
+    let (table, script, rows, obeyed, job, at, later, sound, legal, long, due, due_later, order, by, turns, few, none, one) = some_walk in
     (table, script, rows, obeyed, sound, legal, within_bounds rows obeyed.after.standing.posted few none, turns)
 
 pub some_walks : (table : Table) × (to : ℤ) × (book : List Row) × (rows : List Row) × (situation : Situation) × (after : Situation)

@@ -1,5 +1,5 @@
 -- A table of one job that is due at each of two minutes, and what its launch table asks for, launch after launch.
-use Rattle.std.proofs.Common.{◌≡◌, ℕ, zero, suc, ◌+◌, ◌<◌, ℤ, pos, Option, Some, None, [], ◌∷◌, refl, sym, ap, ◌∙◌, arith, subst, lit<, ◌↔◌, inl, inr}
+use Rattle.std.proofs.Common.{◌≡◌, ℕ, zero, suc, ◌+◌, ◌<◌, ℤ, pos, Option, Some, None, List, [], ◌∷◌, refl, sym, ap, ◌∙◌, arith, subst, lit<, ◌↔◌, inl, inr}
 use Rattle.std.proofs.lemmas.Int.{ints}
 use Rattle.std.proofs.lemmas.List.Elements.{All-cons, All-nil}
 use Rattle.zone_minutes.specs.Window.{IsInWindow}
@@ -15,7 +15,7 @@ use Rattle.paxos_base.specs.declared.entry.Entry.TheVariants as entry
 use Rattle.paxos_base.specs.declared.entry.Kind.TheVariants.{Launch}
 use Rattle.paxos_base.specs.declared.rows.JobRow.{JobRow}
 use Rattle.launch_machine.specs.Answers.{IsCallKind, IsIntent}
-use Rattle.launch_machine.specs.Clerk.{Applies, MayStart, TakesStart, first_force, NoStart}
+use Rattle.launch_machine.specs.Clerk.{Applies, MayStart, TakesStart, first_force, NoStart, NoTable}
 use Rattle.launch_machine.specs.Intent.{NoCall}
 use Rattle.launch_machine.specs.declared.machine.Intent.TheVariants as intent
 use Rattle.launch_machine.proofs.MachineLemmas.{due_or_opens}
@@ -141,5 +141,9 @@ no_start k zero at takes =
     by_may (inr opens) = due_or_opens brief 0 0 _ _ (minute 0) (minute k) at (due 0 (lit< tt)) opens
 no_start k (suc job) at takes = let below : suc job < 1 = takes.known in omega (arith, below)
 
+-- the table has one version
+no_table : (rows : List JobRow) (now : ℤ) → NoTable brief rows now
+no_table rows now version takes = omega (arith, takes.next, takes.known)
+
 pub rest_asked : (k : ℕ) → IsIntent brief (with_table (idle (suc k))) (minute k) intent.Rest
-rest_asked k = (no_call (suc k) (minute k), no_start k)
+rest_asked k = (no_call (suc k) (minute k), no_start k, no_table (with_table (idle (suc k))) (minute k))

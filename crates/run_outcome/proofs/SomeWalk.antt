@@ -233,10 +233,11 @@ few_rows =
     let e = second.drained.few in
     omega (arith, whole, walk, settling, campaign, a, b, c, d, e)
 
--- it has few turns, and posts no letter
+-- it has few turns, and posts no letter; its table has one version
 pub some_walk : (table : Table) × (script : List Command) × (rows : List Row) × (obeyed : Obeys 1 table script rows) × (job : ℕ) × (at : ℤ) × (later : ℤ)
     × IsSound table × IsLegal 1 table rows × IsGraceLong table × IsJobDue table 0 job at × IsJobDue table 0 job later × (at <ℤ later)
     × AreTurnsBy at (script_turns obeyed) × (0 < length (script_turns obeyed)) × (length rows ≤ 100) × (obeyed.after.standing.posted ≡ [])
+    × (table.later ≡ [])
 unfolding obeyed
 some_walk = (
   brief,
@@ -256,4 +257,5 @@ some_walk = (
   has_turns,
   few_rows,
   second.drained.has.posted_are,
+  refl,
 )

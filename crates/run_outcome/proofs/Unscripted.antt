@@ -1,5 +1,5 @@
 -- In a book that obeys a script without commands each start of a job that runs by its period is called at its own reading.
-use Rattle.std.proofs.Common.{◌≡◌, ℕ, ◌<◌, ◌≤◌, Option, Some, None, List, ◌∷◌, ◌++◌, length, take, drop, ℤ, ◌≤ℤ◌, ◌<ℤ◌, refl, sym, ap, ◌∙◌, inl, inr, subst, arith, append_assoc}
+use Rattle.std.proofs.Common.{◌≡◌, ℕ, ◌<◌, ◌≤◌, Option, Some, None, List, [], ◌∷◌, ◌++◌, length, take, drop, ℤ, ◌≤ℤ◌, ◌<ℤ◌, refl, sym, ap, ◌∙◌, inl, inr, subst, arith, append_assoc}
 use Rattle.std.specs.List.{Contains, slice_get}
 use Rattle.std.proofs.lemmas.Bool.{cases_lt}
 use Rattle.std.proofs.lemmas.Int.{ints, by_lt_z}
@@ -20,6 +20,7 @@ use Rattle.paxos_base.specs.declared.entry.Kind.TheVariants.{Launch}
 use Rattle.paxos_base.specs.declared.rows.JobRow.{JobRow}
 use Rattle.cluster_sched.specs.declared.row.SchedRow.{SchedRow}
 use Rattle.launch_machine.specs.Clerk.{IsClerkOf, TakesStart, first_force, first_rows, in_force}
+use Rattle.launch_machine.specs.Starts.{AdoptionsOf}
 use Rattle.launch_machine.specs.declared.force.InForce.{InForce}
 use Rattle.launch_machine.specs.Intent.{MayCall}
 use Rattle.launch_machine.specs.declared.machine.Intent.TheVariants as intent
@@ -44,7 +45,8 @@ use Rattle.launch_safety.proofs.ReadLemmas.{held_by}
 use Rattle.launch_safety.specs.Asked.{IsAskedAt, ReadsAt}
 use Rattle.launch_safety.proofs.Rises.{AllGoOn, rises}
 use Rattle.launch_safety.proofs.WholeReadings.{held_asked, logged_asked, not_ahead, reads_by}
-use Rattle.run_outcome.proofs.FrontLemmas.{by_front, cut_at, held_on, log_on, short_at, table_at}
+use Rattle.run_outcome.proofs.FrontLemmas.{by_front, cut_at, front_none, held_on, log_on, short_at, table_at}
+use Rattle.run_outcome.specs.Whole.{AdoptsNone}
 use Rattle.run_outcome.proofs.Minutes.{AllDrained, IsDrained, IsDrainedBy, Place, earlier, go_back, go_front, later, place}
 use Rattle.due_set.proofs.Rising.{Contains-head as in_first}
 use Rattle.history.proofs.FrontLemmas.{front_legal, follows_there}
@@ -59,7 +61,8 @@ member_of n table standing (Stopped other (Some cause) kept) row now who may rea
 member_of n table standing (Restarted other) row now who may reads of = absurd reads
 member_of n table standing (Arrived number) row now who may reads of = absurd reads
 
-module _ (n : ℕ) (table : Table) (rows : List Row) (few : n ≤ 7) (legal : IsLegal n table rows) (known : AllDrained n table rows) (log : List Entry) (is_log : IsLog n (votes_in rows) log) where
+module _ (n : ℕ) (table : Table) (rows : List Row) (few : n ≤ 7) (legal : IsLegal n table rows) (adopts : AdoptsNone n table rows) (known : AllDrained n table rows)
+    (log : List Entry) (is_log : IsLog n (votes_in rows) log) where
   part_legal : (front back : List Row) → rows ≡ front ++ back → IsLegal n table front
   part_legal front back parts = front_legal n table front back (subst (λ some. IsLegal n table some) parts legal)
 
@@ -112,6 +115,9 @@ module _ (n : ℕ) (table : Table) (rows : List Row) (few : n ≤ 7) (legal : Is
     abbrev front_log : List Entry
     front_log = upto_log.0
 
+    upto_none : AdoptionsOf table front_log []
+    upto_none = front_none n table rows few legal adopts upto drained.rest upto_parts front_log upto_log.1
+
     log_is : (more : List Entry) × (log ≡ front_log ++ more)
     log_is = log_on n table rows few legal upto drained.rest front_log log upto_parts upto_log.1 is_log
 
@@ -146,7 +152,7 @@ module _ (n : ℕ) (table : Table) (rows : List Row) (few : n ≤ 7) (legal : Is
 
     module _ (by : IsRunByPeriod table job) where
       pub opens : IsJobOpen table 0 job start.takes.2.row.last start.takes.2.row.cursor now at
-      opens = may_start_on table job start.takes.2.row at now by (effective_may n table rows few legal log is_log job at now start)
+      opens = may_start_on table job start.takes.2.row at now by (effective_may n table rows few legal log is_log (adopts log is_log) job at now start)
 
       known_job : job < length table.jobs
       known_job = slice_get_within table.jobs job opens.job opens.is_in.is_job
@@ -159,7 +165,7 @@ module _ (n : ℕ) (table : Table) (rows : List Row) (few : n ≤ 7) (legal : Is
 
       first : first_force ≡ in_force table quiet.asks.rows
       first =
-          sym (front_force n table upto few upto_legal front_log upto_log.1 (take known_to front_log) (drop known_to front_log) quiet.asks.rows
+          sym (front_force n table upto few upto_legal front_log upto_log.1 upto_none (take known_to front_log) (drop known_to front_log) quiet.asks.rows
           (sym (take-append-drop known_to front_log)) clerk)
 
       -- it isn't open any more, since it could be called then
@@ -238,7 +244,7 @@ module _ (n : ℕ) (table : Table) (rows : List Row) (few : n ≤ 7) (legal : Is
 
       launched : row.kind ≡ Launch
       launched =
-          let backed = held_first n table rows log row few legal is_log among in
+          let backed = held_first n table rows log row few legal is_log (adopts log is_log) among in
           let is_in : IsJobIn table 0 row.name.job opens.job opens.zone = subst (λ number. IsJobIn table 0 number opens.job opens.zone) (sym held.of_job) opens.is_in in
           let shown : day_number (local_of opens.zone row.now.0) ≡ row.name.at =
           ap (λ instant. day_number (local_of opens.zone instant)) then ∙ sym opens.is_date ∙ sym held.due_at in

@@ -4,14 +4,17 @@ use Rattle.std.specs.Int.{int_min}
 use Rattle.std.proofs.lemmas.Int.{ints, clamps, by_lt_z}
 use Rattle.std.proofs.lemmas.List.Elements.{All-append}
 use Rattle.std.proofs.lemmas.List.Sums.{fold-append}
-use Rattle.due_set.specs.Table.{IsJobDue, Table}
+use Rattle.due_set.specs.Table.{IsJobDue, IsSound, Table}
 use Rattle.paxos_base.specs.declared.entry.Entry.{Entry}
 use Rattle.paxos_base.specs.declared.entry.Kind.{Kind}
 use Rattle.paxos_base.specs.declared.entry.Kind.TheVariants.{Launch}
 use Rattle.script_text.specs.declared.command.Command.{Command}
 use Rattle.launch_machine.specs.Clerk.{first_rows}
+use Rattle.launch_machine.specs.Starts.{AdoptionsOf}
+use Rattle.launch_machine.specs.Versions.{IsDueUnder}
 use Rattle.launch_safety.specs.Fits.{HasEnd, HasStart, IsHeld}
 use Rattle.launch_safety.specs.Launched.{IsCalledAt}
+use Rattle.launch_safety.specs.Settled.{IsSettled}
 use Rattle.agreement.specs.Log.{IsLog}
 use Rattle.step_spec.specs.State.{State}
 use Rattle.history.specs.Book.{Row, Standing, after_row, first_standing, standing_after, votes_in}
@@ -19,14 +22,17 @@ use Rattle.history.specs.Legal.{IsLegal}
 use Rattle.history.proofs.Turns.{after_rows}
 use Rattle.launch_safety.specs.Fitting.{held_in}
 use Rattle.script_semantics.specs.Script.{Obeys}
+use Rattle.settling.specs.Rounds.{IsWithinBounds}
+use Rattle.run_outcome.specs.Whole.{AdoptsNone}
 use Rattle.script_semantics.specs.Settling.{AsksNothing, WalksIn, coordinator}
 use Rattle.script_semantics.specs.Situation.{Situation, first_situation}
-use Rattle.script_semantics.proofs.WalkLemmas.{settled, walked, drained as drains_quiet}
+use Rattle.script_semantics.proofs.WalkLemmas.{settled as settles_quiet, drained as drains_quiet}
 use Rattle.run_outcome.specs.Readings.{IsGraceLong, script_end, script_turns}
 use Rattle.launch_safety.specs.Readings.{AreTurnsBy, IsTurnBy}
 use Rattle.run_outcome.proofs.DrainLemmas.{AreRight, drains_by, settles_by}
-use Rattle.run_outcome.proofs.PartLemmas.{Comes, drains_come, each_by, latest_by, parts_come, settles_come, walks_come}
-use Rattle.run_outcome.proofs.SettledLemmas.{EndsAtRest, Passes, called, called_held, ended, launched}
+use Rattle.run_outcome.proofs.PartLemmas.{Comes, drains_come, each_by, latest_by, parts_come, settles_come}
+use Rattle.run_outcome.proofs.SettledLemmas.{Passes, called, ended, launched}
+use Rattle.run_outcome.proofs.ScriptLemmas.{script_settled}
 
 -- the situation is that of a book
 abbrev IsOf : (n : ℕ) (table : Table) (book : List Row) → Situation → Type 0
@@ -97,27 +103,11 @@ module _ (n : ℕ) (table : Table) (script : List Command) (rows : List Row) (ob
   of_script : IsOf n table obeyed.obeys.front obeyed.obeys.middle
   of_script = goes_on n table [] obeyed.obeys.front begun obeyed.obeys.middle refl scripted
 
-  of_walk : IsOf n table rows obeyed.after
-  of_walk =
-      subst (λ some. IsOf n table some obeyed.after) (sym obeyed.obeys.parts)
-      (goes_on n table obeyed.obeys.front obeyed.obeys.back obeyed.obeys.middle obeyed.after of_script
-      (walks_come n table last obeyed.obeys.middle obeyed.obeys.back obeyed.after obeyed.obeys.two))
-
   pub latest_each : (at : ℤ) → (script_end obeyed).latest ≤ℤ at → AreTurnsBy at (script_turns obeyed)
   latest_each at low = each_by at table.window.from.0 obeyed.obeys.front (subst (λ reading. reading ≤ℤ at) scripted.latest low)
 
   pub latest_least : (at : ℤ) → table.window.from.0 ≤ℤ at → AreTurnsBy at (script_turns obeyed) → (script_end obeyed).latest ≤ℤ at
   latest_least at from by = subst (λ reading. reading ≤ℤ at) (sym scripted.latest) (latest_by at table.window.from.0 obeyed.obeys.front by from)
-
-  -- the walk ends at rest
-  at_rest : EndsAtRest n table rows
-  at_rest =
-      let (who, minute, within, quiet, rests) = walked n table last obeyed.obeys.middle obeyed.after obeyed.obeys.back obeyed.obeys.two in
-      record {
-        who = who;
-        asks = subst (λ (st : Standing). AsksNothing table last (st.replicas who)) of_walk
-            (asks_then table minute last (obeyed.after.standing.replicas who) quiet.rests within (λ before. rests last before (omega (arith, ints))));
-      }
 
   -- it settles no later than at an instant that no clock has passed, and goes on past it
   pub passes : (at : ℤ) → table.window.from.0 ≤ℤ at → at ≤ℤ last → AreTurnsBy at (script_turns obeyed) → Passes n table at rows
@@ -128,28 +118,27 @@ module _ (n : ℕ) (table : Table) (script : List Command) (rows : List Row) (ob
       let latest = latest_least at from by in
       let low : settling ≤ℤ at = omega (arith, ints, clamps, latest) in
       let timely = settles_by n table at settling here walk.front walk.middle from low walk.one in
-      let quiet = settled n table settling here walk.middle walk.front walk.one in
+      let quiet = settles_quiet n table settling here walk.middle walk.front walk.one in
       let there = goes_on n table obeyed.obeys.front walk.front here walk.middle of_script (settles_come n table settling here walk.front walk.middle walk.one) in
       subst (λ some. Passes n table at some)
       (append_assoc obeyed.obeys.front walk.front walk.back ∙ ap (λ some. obeyed.obeys.front ++ some) (sym walk.parts) ∙ sym obeyed.obeys.parts)
       (walks_past walk.two.0 n table (coordinator n here) quiet.0 settling last at (obeyed.obeys.front ++ walk.front) walk.back walk.middle obeyed.after from low high there
       (longer at obeyed.obeys.front walk.front by timely.by) timely.right quiet.1.rests walk.two.1)
 
-pub each_ended : (n : ℕ) (table : Table) (script : List Command) (rows : List Row) (log : List Entry) (job : ℕ) (at : ℤ) → n ≤ 7 → IsLegal n table rows → Obeys n table script rows → IsLog n (votes_in rows) log
-    → IsJobDue table 0 job at → HasStart table log job at × (kind : Kind) × HasEnd table log job at kind
-each_ended n table script rows log job at few legal obeyed is_log due = ended n table rows log job at few legal is_log (at_rest n table script rows obeyed) due
-
-pub each_called : (n : ℕ) (table : Table) (script : List Command) (rows : List Row) (obeyed : Obeys n table script rows) (job : ℕ) (at : ℤ) → n ≤ 7 → IsLegal n table rows → IsJobDue table 0 job at
-    → AreTurnsBy at (script_turns obeyed) → IsCalledAt (held_in n table rows) job at Launch at
-each_called n table script rows obeyed job at few legal due by =
+pub each_called : (n : ℕ) (table : Table) (script : List Command) (rows : List Row) (obeyed : Obeys n table script rows) (job : ℕ) (at : ℤ) → n ≤ 7 → IsLegal n table rows → AdoptsNone n table rows
+    → IsJobDue table 0 job at → AreTurnsBy at (script_turns obeyed) → IsCalledAt (held_in n table rows) job at Launch at
+each_called n table script rows obeyed job at few legal none due by =
     let before = due.inside.before in
-    called n table rows job at few legal due (passes n table script rows obeyed at due.inside.since (omega (arith, ints, before)) by)
+    called n table rows job at few legal none due (passes n table script rows obeyed at due.inside.since (omega (arith, ints, before)) by)
 
-pub each_later : (n : ℕ) (table : Table) (script : List Command) (rows : List Row) (obeyed : Obeys n table script rows) (job : ℕ) (at : ℤ) → n ≤ 7 → IsLegal n table rows → IsJobDue table 0 job at
-    → AreTurnsBy at (script_turns obeyed) → IsHeld (held_in n table rows) job at Launch
-each_later n table script rows obeyed job at few legal due by =
-    called_held (held_in n table rows) job at at Launch (each_called n table script rows obeyed job at few legal due by)
+-- at the window's last minute the whole log has nothing left to do
+module _ (n : ℕ) (table : Table) (script : List Command) (rows : List Row) (obeyed : Obeys n table script rows) (log : List Entry) (adoptions : List ℤ) (job : ℕ) (at : ℤ) (some : 1 ≤ n) (few : n ≤ 7)
+    (sound : IsSound table) (legal : IsLegal n table rows) (limits : IsWithinBounds rows obeyed.after.standing.posted) (is_log : IsLog n (votes_in rows) log) (adopted : AdoptionsOf table log adoptions) where
+  settled : IsSettled table log (table.window.until.0 -ℤ pos 1)
+  settled = script_settled n table script rows obeyed log some few sound legal limits is_log
 
-pub each_launched : (n : ℕ) (table : Table) (script : List Command) (rows : List Row) (job : ℕ) (at : ℤ) → n ≤ 7 → IsLegal n table rows → Obeys n table script rows → IsGraceLong table → IsJobDue table 0 job at
-    → IsHeld (held_in n table rows) job at Launch
-each_launched n table script rows job at few legal obeyed long due = launched n table rows job at few legal (at_rest n table script rows obeyed) long due
+  pub each_ended : IsDueUnder table adoptions job at → HasStart table log job at × (kind : Kind) × HasEnd table log job at kind
+  each_ended due = ended table log adoptions job at sound adopted settled due
+
+  pub each_launched : IsGraceLong table → IsDueUnder table adoptions job at → IsHeld (held_in n table rows) job at Launch
+  each_launched long due = launched n table rows log adoptions job at few sound legal is_log adopted settled long due

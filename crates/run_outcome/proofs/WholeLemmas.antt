@@ -1,19 +1,21 @@
 -- A legal book that obeys a script within the limits is a whole run of it.
-use Rattle.std.proofs.Common.{◌≡◌, ℕ, ◌≤◌, List, take, length, pos, ◌-ℤ◌, refl, subst}
+use Rattle.std.proofs.Common.{◌≡◌, ℕ, ◌≤◌, List, ℤ, take, length, refl, subst}
 use Rattle.paxos_base.specs.declared.entry.Entry.{Entry}
 use Rattle.due_set.specs.Table.{IsSound, Table}
-use Rattle.launch_safety.specs.Settled.{IsSettled}
+use Rattle.launch_machine.specs.Starts.{AdoptionsOf}
+use Rattle.launch_machine.proofs.ExistLemmas.{adoptions_of_exist}
 use Rattle.script_text.specs.declared.command.Command.{Command}
 use Rattle.step_spec.specs.State.{prefix_of}
 use Rattle.agreement.specs.Log.{IsLog}
 use Rattle.history.specs.Book.{Row, Standing, votes_in}
 use Rattle.history.specs.Legal.{IsLegal}
 use Rattle.history.proofs.Agreement.{agrees, book_log, cut_is_legal}
-use Rattle.launch_safety.proofs.Whole.{cut_fits, log_takes, table_left}
+use Rattle.launch_safety.proofs.Whole.{cut_fits, log_takes}
 use Rattle.script_semantics.specs.Script.{Obeys}
 use Rattle.settling.specs.Rounds.{IsWithinBounds}
-use Rattle.run_outcome.proofs.WalkWhole.{each_called, each_ended, each_launched}
-use Rattle.run_outcome.proofs.ScriptLemmas.{script_calls, script_ends, script_learned, script_starts}
+use Rattle.run_outcome.proofs.AtOnceLemmas.{called_under}
+use Rattle.run_outcome.proofs.WalkWhole.{each_ended, each_launched}
+use Rattle.run_outcome.proofs.ScriptLemmas.{script_ends, script_learned, script_settled}
 use Rattle.run_outcome.specs.Whole.{HaveLearnedAll, IsWholeRun}
 
 module _ (members : ℕ) (table : Table) (script : List Command) (rows : List Row) (obeyed : Obeys members table script rows) (some : 1 ≤ members) (few : members ≤ 7) (sound : IsSound table)
@@ -25,15 +27,12 @@ module _ (members : ℕ) (table : Table) (script : List Command) (rows : List Ro
       (script_ends members table script rows obeyed log some few sound legal limits is_log).standing
       (script_learned members table script rows obeyed log who some few sound legal limits is_log member)
 
-  rests : IsSettled table log (table.window.until.0 -ℤ pos 1)
-  rests =
-      let (launch, clerk) = table_left members table rows log few legal is_log in
-      record {
-        rows = launch;
-        clerk = clerk;
-        no_call = script_calls members table script rows obeyed log launch some few sound legal limits is_log clerk;
-        no_start = script_starts members table script rows obeyed log launch some few sound legal limits is_log clerk;
-      }
+  -- its log adopts versions at these instants
+  abbrev adoptions : List ℤ
+  adoptions = (adoptions_of_exist table sound log).0
+
+  adopted : AdoptionsOf table log adoptions
+  adopted = (adoptions_of_exist table sound log).1
 
   -- by the same parts
   is_whole : (whole : IsWholeRun members table script rows) × (whole.obeyed ≡ obeyed)
@@ -47,11 +46,13 @@ module _ (members : ℕ) (table : Table) (script : List Command) (rows : List Ro
       log = log;
       is_log = is_log;
       learned = all_learned;
+      adoptions = adoptions;
+      adopted = adopted;
       effective = λ before after entry. log_takes members table rows log before after entry few legal is_log;
-      settled = rests;
-      ended = λ job at. each_ended members table script rows log job at few legal obeyed is_log;
-      later = λ job at. each_called members table script rows obeyed job at few legal;
-      all = λ long job at. each_launched members table script rows job at few legal obeyed long;
+      settled = script_settled members table script rows obeyed log some few sound legal limits is_log;
+      ended = λ job at. each_ended members table script rows obeyed log adoptions job at some few sound legal limits is_log adopted;
+      later = λ job at. called_under members table script rows obeyed log adoptions job at some few sound legal limits is_log adopted;
+      all = λ long job at. each_launched members table script rows obeyed log adoptions job at some few sound legal limits is_log adopted long;
     },
     refl,
   )

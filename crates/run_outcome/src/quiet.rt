@@ -5,7 +5,7 @@ ghost use Rattle.zone_minutes.specs.Window.{IsInWindow};
 ghost use Rattle.paxos_base.specs.declared.entry.Entry.{Entry};
 ghost use Rattle.paxos_base.specs.declared.rows.JobRow.{JobRow};
 ghost use Rattle.due_set.specs.Table.{IsSound, Table};
-ghost use Rattle.launch_machine.specs.Clerk.{IsClerkOf, NoStart};
+ghost use Rattle.launch_machine.specs.Clerk.{IsClerkOf, NoStart, NoTable};
 ghost use Rattle.launch_machine.specs.Intent.{NoCall};
 ghost use Rattle.script_text.specs.declared.command.Command.{Command};
 ghost use Rattle.step_spec.specs.State.{prefix_of};
@@ -61,7 +61,8 @@ pub fn a_walk_ends_quietly()
 {}
 
 /// Where a legal book of one to seven replicas obeys a script within the limits, it ends quietly at the window's last minute. So each
-/// replica has learned the whole log; and of the launch table of the log no launch may be called then, and none is to start.
+/// replica has learned the whole log; and of the launch table of the log no launch may be called then, none is to start, and no version is
+/// to be adopted.
 pub fn an_obeyed_script_ends_quietly()
     ensures ends { (members : ℕ) (table : Table) (script : List Command) (rows : List Row) (obeyed : Obeys members table script rows) (log : List Entry)
         → 1 ≤ members → members ≤ 7 → IsSound table → IsLegal members table rows → IsWithinBounds rows obeyed.after.standing.posted
@@ -79,6 +80,10 @@ pub fn an_obeyed_script_ends_quietly()
         (log : List Entry) (launch : List JobRow)
         → 1 ≤ members → members ≤ 7 → IsSound table → IsLegal members table rows → IsWithinBounds rows obeyed.after.standing.posted
         → IsLog members (votes_in rows) log → IsClerkOf table log launch → NoStart table launch (table.window.until.0 -ℤ pos 1) }
+    ensures versions { (members : ℕ) (table : Table) (script : List Command) (rows : List Row) (obeyed : Obeys members table script rows)
+        (log : List Entry) (launch : List JobRow)
+        → 1 ≤ members → members ≤ 7 → IsSound table → IsLegal members table rows → IsWithinBounds rows obeyed.after.standing.posted
+        → IsLog members (votes_in rows) log → IsClerkOf table log launch → NoTable table launch (table.window.until.0 -ℤ pos 1) }
 {}
 
 /// There is a legal book of one replica that obeys a script with a turn, within the limits; and so there is one that goes on with a

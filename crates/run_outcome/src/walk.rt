@@ -15,22 +15,33 @@ ghost use Rattle.script_semantics.specs.Script.{Obeys};
 ghost use Rattle.script_semantics.specs.Situation.{Situation, after_turns};
 ghost use Rattle.run_outcome.specs.Readings.{IsGraceLong, script_end, script_turns};
 ghost use Rattle.launch_safety.specs.Readings.{AreTurnsBy};
+ghost use Rattle.launch_machine.specs.Starts.{AdoptionsOf};
+ghost use Rattle.launch_machine.specs.Versions.{IsDueUnder};
+ghost use Rattle.settling.specs.Rounds.{IsWithinBounds};
+ghost use Rattle.run_outcome.specs.Whole.{AdoptsNone};
 
-/// Where a legal book of one to seven replicas obeys a script, each due instant of a crontab job has been started and has ended.
-/// One that no clock reading of the script's turns has passed is held as launched, and was called at that very instant. Where
+/// Where a legal book of one to seven replicas obeys a script, over a sound table and within the limits in which letters are heard, each
+/// due instant of a crontab job, by the versions in force then, has been started and has ended. One that no clock reading of the script's
+/// turns has passed is held as launched, and was called at that very instant; so it is without limits where no version is adopted. Where
 /// grace lasts as long as the window, each due instant is held as launched.
 pub fn a_walk_launches_each_due_instant()
-    ensures ended { (members : ℕ) (table : Table) (script : List Command) (rows : List Row) (log : List Entry) (job : ℕ) (at : ℤ)
-        → members ≤ 7 → IsLegal members table rows → Obeys members table script rows → IsLog members (votes_in rows) log
-        → IsJobDue table 0 job at → HasStart table log job at × (kind : Kind) × HasEnd table log job at kind }
-    ensures later { (members : ℕ) (table : Table) (script : List Command) (rows : List Row) (obeyed : Obeys members table script rows) (job : ℕ) (at : ℤ)
-        → members ≤ 7 → IsLegal members table rows → IsJobDue table 0 job at → AreTurnsBy at (script_turns obeyed)
-        → IsHeld (held_in members table rows) job at Launch }
-    ensures at_once { (members : ℕ) (table : Table) (script : List Command) (rows : List Row) (obeyed : Obeys members table script rows) (job : ℕ) (at : ℤ)
-        → members ≤ 7 → IsLegal members table rows → IsJobDue table 0 job at → AreTurnsBy at (script_turns obeyed)
+    ensures ended { (members : ℕ) (table : Table) (script : List Command) (rows : List Row) (obeyed : Obeys members table script rows)
+        (log : List Entry) (adoptions : List ℤ) (job : ℕ) (at : ℤ)
+        → 1 ≤ members → members ≤ 7 → IsSound table → IsLegal members table rows → IsWithinBounds rows obeyed.after.standing.posted
+        → IsLog members (votes_in rows) log → AdoptionsOf table log adoptions → IsDueUnder table adoptions job at
+        → HasStart table log job at × (kind : Kind) × HasEnd table log job at kind }
+    ensures at_once { (members : ℕ) (table : Table) (script : List Command) (rows : List Row) (obeyed : Obeys members table script rows)
+        (log : List Entry) (adoptions : List ℤ) (job : ℕ) (at : ℤ)
+        → 1 ≤ members → members ≤ 7 → IsSound table → IsLegal members table rows → IsWithinBounds rows obeyed.after.standing.posted
+        → IsLog members (votes_in rows) log → AdoptionsOf table log adoptions → IsDueUnder table adoptions job at
+        → AreTurnsBy at (script_turns obeyed) → IsCalledAt (held_in members table rows) job at Launch at }
+    ensures first { (members : ℕ) (table : Table) (script : List Command) (rows : List Row) (obeyed : Obeys members table script rows) (job : ℕ) (at : ℤ)
+        → members ≤ 7 → IsLegal members table rows → AdoptsNone members table rows → IsJobDue table 0 job at → AreTurnsBy at (script_turns obeyed)
         → IsCalledAt (held_in members table rows) job at Launch at }
-    ensures all { (members : ℕ) (table : Table) (script : List Command) (rows : List Row) (job : ℕ) (at : ℤ)
-        → members ≤ 7 → IsLegal members table rows → Obeys members table script rows → IsGraceLong table → IsJobDue table 0 job at
+    ensures all { (members : ℕ) (table : Table) (script : List Command) (rows : List Row) (obeyed : Obeys members table script rows)
+        (log : List Entry) (adoptions : List ℤ) (job : ℕ) (at : ℤ)
+        → 1 ≤ members → members ≤ 7 → IsSound table → IsLegal members table rows → IsWithinBounds rows obeyed.after.standing.posted
+        → IsLog members (votes_in rows) log → AdoptionsOf table log adoptions → IsGraceLong table → IsDueUnder table adoptions job at
         → IsHeld (held_in members table rows) job at Launch }
 {}
 

@@ -69,7 +69,7 @@ abbrev pub May : List Row → Row → Type 0
 May book row = MayFollow 2 no_jobs (standing_after 2 (first_rows no_jobs) book) row.turn row
 
 asks_nothing : IsIntent no_jobs (first_rows no_jobs) (pos 0) intent.Rest
-asks_nothing = rests_without_jobs no_jobs (first_rows no_jobs) (pos 0) refl
+asks_nothing = rests_without_jobs no_jobs (first_rows no_jobs) (pos 0) refl refl
 
 pub takes_campaign : (standing : Standing) (who : ℕ) → who < 2 → standing.runs who ≡ true → TakesTurn 2 no_jobs standing who cause.Campaign Campaign
 takes_campaign standing who member runs = record { member = member; runs = runs; event_of = refl; planned = tt }

@@ -107,7 +107,7 @@ is_quiet = record {
   rests = record {
     rows = first_rows no_jobs;
     rows_are = refl;
-    rests = rests_without_jobs no_jobs (first_rows no_jobs) (pos 0) refl;
+    rests = rests_without_jobs no_jobs (first_rows no_jobs) (pos 0) refl refl;
   };
   caught_up = λ other member. let first : other ≡ 0 = omega arith in rw first refl;
 }

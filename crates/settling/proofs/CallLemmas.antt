@@ -3,7 +3,7 @@ use Rattle.std.proofs.Common.{◌≡◌, ℕ, Option, Some, None, List, [], ◌�
 use Rattle.std.proofs.lemmas.Bool.{cases_Bool}
 use Rattle.paxos_base.specs.Members.{has_majority, only_member}
 use Rattle.paxos_base.specs.Vote.{votes_from}
-use Rattle.paxos_base.specs.declared.entry.Entry.TheVariants.{Noop, Start}
+use Rattle.paxos_base.specs.declared.entry.Entry.TheVariants.{Noop, Start, Table as TableEntry}
 use Rattle.paxos_base.specs.declared.entry.Vote.{Vote}
 use Rattle.cluster_sched.specs.declared.row.SchedRow.{SchedRow}
 use Rattle.launch_machine.specs.declared.machine.Intent.{Intent}
@@ -37,6 +37,7 @@ no_call_follow : (self : Identity) (now : ℤ) (wanted : Intent) (ballot : ℕ) 
 unfolding after_act calls_by
 no_call_follow self now (intent.Call job at kind) ballot best state is stands = absurd (subst IsCandidacy is stands)
 no_call_follow self now (intent.Start job at) ballot best state is stands = no_call_propose self (proposal ballot best (prefix_of state) (Start job at now))
+no_call_follow self now (intent.Adopt version) ballot best state is stands = no_call_propose self (proposal ballot best (prefix_of state) (TableEntry version now))
 no_call_follow self now intent.Rest ballot best state is stands = refl
 
 no_call_tick : (self : Identity) (now : ℤ) (wanted : Intent) (state : State) (term : Term) → state.term ≡ term

@@ -162,8 +162,9 @@ tick_alone best at sound now plan state answered leading planned wanted =
 -- ---- a tick of one that has nothing to do
 
 rests_only : (table : Table) (rows : List JobRow) (now : ℤ) (wanted : Intent) → IsIntent table rows now intent.Rest → IsIntent table rows now wanted → wanted ≡ intent.Rest
-rests_only table rows now (intent.Call job instant kind) (no_call, no_start) (first, is) = absurd (no_call job instant first.may)
-rests_only table rows now (intent.Start job instant) (no_call, no_start) (none, first) = absurd (no_start job instant first.takes)
+rests_only table rows now (intent.Call job instant kind) (no_call, no_start, no_table) (first, is) = absurd (no_call job instant first.may)
+rests_only table rows now (intent.Start job instant) (no_call, no_start, no_table) (none, first) = absurd (no_start job instant first.takes)
+rests_only table rows now (intent.Adopt version) (no_call, no_start, no_table) (none, takes) = absurd (no_table version takes)
 rests_only table rows now intent.Rest resting wanted = refl
 
 -- it says that it leads

@@ -10,7 +10,7 @@ use Rattle.paxos_base.specs.declared.entry.Vote.{Vote}
 use Rattle.paxos_base.specs.declared.rows.JobRow.{JobRow}
 use Rattle.due_set.specs.Table.{Table}
 use Rattle.launch_machine.specs.Answers.{IsIntent}
-use Rattle.launch_machine.specs.Clerk.{IsClerkOf, first_rows, table_size, NoStart}
+use Rattle.launch_machine.specs.Clerk.{IsClerkOf, first_rows, table_size, NoStart, NoTable}
 use Rattle.launch_machine.specs.Intent.{NoCall}
 use Rattle.launch_machine.specs.declared.machine.Intent.TheVariants.{Rest}
 use Rattle.launch_machine.proofs.ClerkLemmas.{AppliesAll-same}
@@ -172,6 +172,9 @@ quiet_calls members table book who now situation log rows ends clerk = ((learned
 
 pub quiet_starts : (members : ℕ) (table : Table) (book : List Row) (who : ℕ) (now : ℤ) (situation : Situation) (log : List Entry) (rows : List JobRow) → EndsQuietly members table book who now situation log → IsClerkOf table log rows → NoStart table rows now
 quiet_starts members table book who now situation log rows ends clerk = ((learned_whole members table book who now situation log ends).rests rows clerk).1
+
+pub quiet_tables : (members : ℕ) (table : Table) (book : List Row) (who : ℕ) (now : ℤ) (situation : Situation) (log : List Entry) (rows : List JobRow) → EndsQuietly members table book who now situation log → IsClerkOf table log rows → NoTable table rows now
+quiet_tables members table book who now situation log rows ends clerk = ((learned_whole members table book who now situation log ends).rests rows clerk).2
 
 -- ---- synchronous rounds
 

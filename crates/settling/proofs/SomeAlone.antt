@@ -76,7 +76,7 @@ may_tick = (
     member = lit< tt;
     runs = refl;
     event_of = (record { since = grind arith; before = grind arith }, record { rows = first_rows quiet_table; intent = intent.Rest }, refl);
-    planned = (refl, rests_without_jobs quiet_table (first_rows quiet_table) (pos 525_600) refl);
+    planned = (refl, rests_without_jobs quiet_table (first_rows quiet_table) (pos 525_600) refl refl);
   },
   record { letters = tt; votes = refl; learnt = refl; call = refl },
 )
@@ -136,7 +136,7 @@ unfolding step campaign after_row after_act after_delta with_member votes_from
 at_rest = record {
   free = refl;
   answered = refl;
-  rests = record { rows = first_rows quiet_table; rows_are = refl; rests = rests_without_jobs quiet_table (first_rows quiet_table) (pos 525_600) refl };
+  rests = record { rows = first_rows quiet_table; rows_are = refl; rests = rests_without_jobs quiet_table (first_rows quiet_table) (pos 525_600) refl refl };
 }
 
 pub some_drain_round : (table : Table) × (at : ℤ) × (book : List Row) × (rows : List Row) × (situation : Situation) × (after : Situation)

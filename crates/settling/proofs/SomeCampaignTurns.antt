@@ -50,7 +50,7 @@ in_window = record { since = grind arith; before = grind arith }
 
 -- its launch table asks for nothing
 pub asks_nothing : IsIntent no_job (first_rows no_job) (pos 525_600) intent.Rest
-asks_nothing = rests_without_jobs no_job (first_rows no_job) (pos 525_600) refl
+asks_nothing = rests_without_jobs no_job (first_rows no_job) (pos 525_600) refl refl
 
 -- ---- the turns
 

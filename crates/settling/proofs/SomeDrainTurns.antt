@@ -50,7 +50,7 @@ abbrev pub now : ℤ
 now = pos 525_600
 
 pub bare_rests : IsIntent bare (first_rows bare) now Rest
-bare_rests = rests_without_jobs bare (first_rows bare) now refl
+bare_rests = rests_without_jobs bare (first_rows bare) now refl refl
 
 -- ---- the replicas
 

@@ -54,7 +54,7 @@ unfolding step campaign tick hear hear_all line on_prepare on_promise after_row 
 quiet = record {
   free = refl;
   answered = refl;
-  rests = record { rows = first_rows no_jobs; rows_are = refl; rests = rests_without_jobs no_jobs (first_rows no_jobs) (pos 0) refl };
+  rests = record { rows = first_rows no_jobs; rows_are = refl; rests = rests_without_jobs no_jobs (first_rows no_jobs) (pos 0) refl refl };
   caught_up = caught_up;
 }
 

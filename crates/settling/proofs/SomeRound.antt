@@ -58,7 +58,7 @@ may_tick = (
     member = lit< tt;
     runs = refl;
     event_of = (record { since = grind arith; before = grind arith }, record { rows = first_rows quiet_table; intent = intent.Rest }, refl);
-    planned = (refl, rests_without_jobs quiet_table (first_rows quiet_table) (pos 525_600) refl);
+    planned = (refl, rests_without_jobs quiet_table (first_rows quiet_table) (pos 525_600) refl refl);
   },
   record { letters = tt; votes = refl; learnt = refl; call = refl },
 )
@@ -70,7 +70,7 @@ may_tick_too = (
     member = lit< tt;
     runs = refl;
     event_of = (record { since = grind arith; before = grind arith }, record { rows = first_rows quiet_table; intent = intent.Rest }, refl);
-    planned = (refl, rests_without_jobs quiet_table (first_rows quiet_table) (pos 525_600) refl);
+    planned = (refl, rests_without_jobs quiet_table (first_rows quiet_table) (pos 525_600) refl refl);
   },
   record { letters = tt; votes = refl; learnt = refl; call = refl },
 )

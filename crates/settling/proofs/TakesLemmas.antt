@@ -5,7 +5,7 @@ use Rattle.std.proofs.lemmas.Bool.{cases_Bool}
 use Rattle.paxos_base.specs.Members.{has_majority, only_member, with_member}
 use Rattle.paxos_base.specs.Vote.{vote_at, votes_from}
 use Rattle.paxos_base.specs.declared.entry.Entry.{Entry}
-use Rattle.paxos_base.specs.declared.entry.Entry.TheVariants.{Noop, Start, End}
+use Rattle.paxos_base.specs.declared.entry.Entry.TheVariants.{Noop, Start, End, Table as TableEntry}
 use Rattle.paxos_base.specs.declared.entry.Vote.{Vote}
 use Rattle.paxos_base.specs.declared.rows.JobRow.{JobRow}
 use Rattle.term_core.specs.Term.{is_fourth}
@@ -70,6 +70,7 @@ wait_takes P ballot flight = elim (cases_Bool (is_fourth flight)) [ inl again �
 follow_takes : (P : ℕ → Type 0) (self : Identity) (now : ℤ) (wanted : Intent) (ballot : ℕ) (best : List Vote) (state : State) → AllTake P (follow_intent self now wanted ballot best state)
 follow_takes P self now (intent.Call job at kind) ballot best state = (tt, tt)
 follow_takes P self now (intent.Start job at) ballot best state = propose_takes P self (proposal ballot best (prefix_of state) (Start job at now))
+follow_takes P self now (intent.Adopt version) ballot best state = propose_takes P self (proposal ballot best (prefix_of state) (TableEntry version now))
 follow_takes P self now intent.Rest ballot best state = (tt, tt)
 
 tick_takes : (P : ℕ → Type 0) (self : Identity) (now : ℤ) (wanted : Intent) (state : State) (term : Term) → AllTake P (tick_of self now wanted state term)

@@ -4,7 +4,7 @@ ghost use Rattle.paxos_base.specs.declared.entry.Entry.{Entry};
 ghost use Rattle.paxos_base.specs.declared.entry.Vote.{Vote};
 ghost use Rattle.paxos_base.specs.declared.rows.JobRow.{JobRow};
 ghost use Rattle.due_set.specs.Table.{Table};
-ghost use Rattle.launch_machine.specs.Clerk.{IsClerkOf, first_rows, NoStart};
+ghost use Rattle.launch_machine.specs.Clerk.{IsClerkOf, first_rows, NoStart, NoTable};
 ghost use Rattle.launch_machine.specs.Intent.{NoCall};
 ghost use Rattle.step_spec.specs.State.{prefix_of};
 ghost use Rattle.agreement.specs.Log.{IsLog};
@@ -33,7 +33,8 @@ pub fn caught_up_and_idle_is_quiet()
 {}
 
 /// Where a legal book comes to a quiet situation in which nobody has promised a higher ballot than its leader, each replica has
-/// learned the whole log; and of the launch table of the log no launch may be called at the instant, and none is to start.
+/// learned the whole log; and of the launch table of the log no launch may be called at the instant, none is to start, and no
+/// version of the table of jobs may be adopted.
 pub fn quiet_says_it_of_the_whole_log()
     ensures learned { (members : ℕ) (table : Table) (book : List Row) (who : ℕ) (now : ℤ) (situation : Situation) (log : List Entry) (other : ℕ)
         → EndsQuietly members table book who now situation log → other < members
@@ -42,6 +43,8 @@ pub fn quiet_says_it_of_the_whole_log()
         → EndsQuietly members table book who now situation log → IsClerkOf table log rows → NoCall table rows now }
     ensures starts { (members : ℕ) (table : Table) (book : List Row) (who : ℕ) (now : ℤ) (situation : Situation) (log : List Entry) (rows : List JobRow)
         → EndsQuietly members table book who now situation log → IsClerkOf table log rows → NoStart table rows now }
+    ensures versions { (members : ℕ) (table : Table) (book : List Row) (who : ℕ) (now : ℤ) (situation : Situation) (log : List Entry) (rows : List JobRow)
+        → EndsQuietly members table book who now situation log → IsClerkOf table log rows → NoTable table rows now }
 {}
 
 /// There is a legal book that comes to a quiet situation in which nobody has promised a higher ballot than its leader.

@@ -5,7 +5,7 @@ use Rattle.std.proofs.lemmas.Bool.{cases_Bool, ltb-false}
 use Rattle.paxos_base.specs.Members.{has_majority, only_member, with_member}
 use Rattle.paxos_base.specs.Vote.{vote_at, votes_from}
 use Rattle.paxos_base.specs.declared.entry.Entry.{Entry}
-use Rattle.paxos_base.specs.declared.entry.Entry.TheVariants.{Noop, Start, End}
+use Rattle.paxos_base.specs.declared.entry.Entry.TheVariants.{Noop, Start, End, Table as TableEntry}
 use Rattle.paxos_base.specs.declared.entry.Vote.{Vote}
 use Rattle.paxos_base.specs.declared.rows.JobRow.{JobRow}
 use Rattle.term_core.specs.Term.{is_fourth}
@@ -82,6 +82,7 @@ follow_copies : (self : Identity) (now : ℤ) (wanted : Intent) (ballot : ℕ) (
 unfolding copies_by
 follow_copies self now (intent.Call job at kind) ballot best state = refl
 follow_copies self now (intent.Start job at) ballot best state = propose_copies self (proposal ballot best (prefix_of state) (Start job at now))
+follow_copies self now (intent.Adopt version) ballot best state = propose_copies self (proposal ballot best (prefix_of state) (TableEntry version now))
 follow_copies self now intent.Rest ballot best state = refl
 
 tick_copies : (self : Identity) (now : ℤ) (wanted : Intent) (state : State) (term : Term) → copies (tick_of self now wanted state term) ≡ 0

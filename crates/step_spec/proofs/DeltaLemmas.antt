@@ -7,7 +7,7 @@ use Rattle.std.proofs.lemmas.List.Sums.{sum_by-cons}
 use Rattle.paxos_base.specs.Members.{has_majority, only_member, with_member}
 use Rattle.paxos_base.specs.Vote.{vote_at, votes_from}
 use Rattle.paxos_base.specs.declared.entry.Entry.{Entry}
-use Rattle.paxos_base.specs.declared.entry.Entry.TheVariants.{Noop, Start, End}
+use Rattle.paxos_base.specs.declared.entry.Entry.TheVariants.{Noop, Start, End, Table as TableEntry}
 use Rattle.paxos_base.specs.declared.entry.Vote.{Vote}
 use Rattle.paxos_base.specs.declared.rows.JobRow.{JobRow}
 use Rattle.term_core.specs.Term.{is_fourth}
@@ -66,6 +66,8 @@ unfolding deltas_by
 follow_changes self now (intent.Call job at kind) ballot best state = omega arith
 follow_changes self now (intent.Start job at) ballot best state =
     omega (arith, propose_changes self (proposal ballot best (prefix_of state) (Start job at now)))
+follow_changes self now (intent.Adopt version) ballot best state =
+    omega (arith, propose_changes self (proposal ballot best (prefix_of state) (TableEntry version now)))
 follow_changes self now intent.Rest ballot best state = omega arith
 
 tick_changes : (self : Identity) (now : ℤ) (wanted : Intent) (state : State) (term : Term) → changes (tick_of self now wanted state term) ≤ 1

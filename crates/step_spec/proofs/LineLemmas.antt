@@ -8,7 +8,7 @@ use Rattle.paxos_base.specs.Ballot.{ballot_number, member_of, round_of}
 use Rattle.paxos_base.specs.Durable.{after_delta}
 use Rattle.paxos_base.specs.Members.{has_majority, with_member}
 use Rattle.paxos_base.specs.declared.entry.Entry.{Entry}
-use Rattle.paxos_base.specs.declared.entry.Entry.TheVariants.{Noop, Start, End}
+use Rattle.paxos_base.specs.declared.entry.Entry.TheVariants.{Noop, Start, End, Table as TableEntry}
 use Rattle.paxos_base.specs.declared.entry.Vote.{Vote}
 use Rattle.paxos_base.specs.declared.rows.JobRow.{JobRow}
 use Rattle.paxos_base.specs.Vote.{vote_at, votes_from}
@@ -357,6 +357,8 @@ follow_may setting state now plan ballot best is table asked = go plan.intent as
     go (intent.Call job at kind) asked = (record { by = refl; rows = plan.rows; rows_are = table; asked = asked }, tt)
     go (intent.Start job at) asked =
         propose_may setting state ballot best (Start job at now) is (record { rows = plan.rows; rows_are = table; asked = asked })
+    go (intent.Adopt version) asked =
+        propose_may setting state ballot best (TableEntry version now) is (record { rows = plan.rows; rows_are = table; asked = asked })
     go intent.Rest asked = ((refl, rw is refl), tt)
 
 pub tick_may : (setting : Setting) (state : State) (now : ℤ) (plan : Plan) (term : Term) → state.term ≡ term → IsCoherent setting.self state → IsLaunchTable setting.table state plan.rows → IsIntent setting.table plan.rows now plan.intent → AllMay setting state (tick_of setting.self now plan.intent state term)

@@ -119,6 +119,12 @@ pub record MayBeStarted (setting : Setting) (state : State) (job : ℕ) (at now 
   pub rows_are : IsLaunchTable setting.table state rows
   pub asked : IsIntent setting.table rows now (intent.Start job at)
 
+-- the launch table asks for the adoption of a version of the table of jobs
+pub record MayBeAdopted (setting : Setting) (state : State) (version : ℕ) (now : ℤ) : Type 0 where
+  pub rows : List JobRow
+  pub rows_are : IsLaunchTable setting.table state rows
+  pub asked : IsIntent setting.table rows now (intent.Adopt version)
+
 -- the launch is open, and the scheduler has answered what it came to
 pub record MayEnd (setting : Setting) (state : State) (job : ℕ) (at : ℤ) (kind : Kind) : Type 0 where
   pub rows : List JobRow
@@ -129,9 +135,9 @@ pub record MayEnd (setting : Setting) (state : State) (job : ℕ) (at : ℤ) (ki
 -- the entries that a leader may propose of its own accord
 abbrev pub MayEnter : Setting → State → Entry → Type 0
 MayEnter setting state Noop = ⊤
-MayEnter setting state (TableEntry version now) = ⊥
 MayEnter setting state (Start job at now) = MayBeStarted setting state job at now
 MayEnter setting state (End job at kind) = MayEnd setting state job at kind
+MayEnter setting state (TableEntry version now) = MayBeAdopted setting state version now
 
 -- it leads, has nothing in flight, and proposes at its prefix what its votes bind it to, or else an entry of its own accord
 pub record MayPropose (setting : Setting) (state : State) (me : ℕ) (vote : Vote) : Type 0 where

@@ -7,7 +7,7 @@ use Rattle.paxos_base.specs.Ballot.{ballot_number, round_of}
 use Rattle.paxos_base.specs.Members.{has_majority, only_member}
 use Rattle.paxos_base.specs.Vote.{vote_at, votes_from}
 use Rattle.paxos_base.specs.declared.entry.Entry.{Entry}
-use Rattle.paxos_base.specs.declared.entry.Entry.TheVariants.{Noop, Start, End}
+use Rattle.paxos_base.specs.declared.entry.Entry.TheVariants.{Noop, Start, End, Table as TableEntry}
 use Rattle.paxos_base.specs.declared.entry.Kind.{Kind}
 use Rattle.paxos_base.specs.declared.entry.Vote.{Vote}
 use Rattle.paxos_base.specs.declared.rows.JobRow.{JobRow}
@@ -66,11 +66,12 @@ wait ballot flight =
     Wait ∷ (if is_fourth flight then Send (Outside flight.accepted) (Accept (vote_of ballot flight)) ∷ [] else [])
 
 -- A leader whom no vote binds does what its launch table asks for: it calls the scheduler for a launch that is open, or
--- proposes to start one; else it says that it leads.
+-- proposes to start one, or to adopt the next version of the table; else it says that it leads.
 abbrev pub follow_intent : Identity → ℤ → Intent → ℕ → List Vote → State → List Act
 follow_intent self now (intent.Call job at kind) ballot best state =
     Call (record { name = record { job = job; at = at }; kind = kind; now = record { 0 = now }; by = self.me }) ∷ []
 follow_intent self now (intent.Start job at) ballot best state = propose self (proposal ballot best (prefix_of state) (Start job at now))
+follow_intent self now (intent.Adopt version) ballot best state = propose self (proposal ballot best (prefix_of state) (TableEntry version now))
 follow_intent self now intent.Rest ballot best state = Send Others (Lead ballot (prefix_of state)) ∷ []
 
 -- A leader that votes still bind at its prefix or behind it proposes what they ask for, and a no-op where there is none.

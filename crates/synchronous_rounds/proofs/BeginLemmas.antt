@@ -1,22 +1,25 @@
 -- What a leader begins that has no flight: at a tick, and at an answer.
-use Rattle.std.proofs.Common.{◌≡◌, ℕ, ◌<◌, ◌≤◌, Bool, true, List, [], ◌∷◌, leb, ◌&&◌, Option, None, Some, ℤ, refl, sym, ap, ◌∙◌, inl, inr, arith, subst}
-use Rattle.std.specs.Prelude.{slice_get}
+use Rattle.std.proofs.Common.{◌≡◌, ℕ, ◌<◌, ◌≤◌, Bool, true, List, [], ◌∷◌, length, leb, ◌&&◌, Option, None, Some, ℤ, refl, sym, ap, ◌∙◌, inl, inr, arith, subst}
+use Rattle.std.specs.Prelude.{slice_get, slice_index_or}
 use Rattle.std.specs.Option.{is_some}
 use Rattle.std.specs.List.{Contains}
 use Rattle.std.proofs.lemmas.Bool.{cases_Bool, leb-false, ne_eqb}
 use Rattle.std.proofs.lemmas.Bool.Decides.{Decides-int_eq}
+use Rattle.std.proofs.lemmas.List.{get_or-set_same}
 use Rattle.paxos_base.specs.Durable.{after_delta}
+use Rattle.paxos_base.specs.Rows.{fresh_row}
 use Rattle.paxos_base.specs.Vote.{vote_at, votes_from}
 use Rattle.paxos_base.specs.declared.entry.Entry.{Entry}
-use Rattle.paxos_base.specs.declared.entry.Entry.TheVariants.{Noop, Start, End}
+use Rattle.paxos_base.specs.declared.entry.Entry.TheVariants.{Noop, Start, End, Table as TableEntry}
 use Rattle.paxos_base.specs.declared.entry.Kind.{Kind}
 use Rattle.paxos_base.specs.declared.entry.Vote.{Vote}
 use Rattle.paxos_base.specs.declared.rows.JobRow.{JobRow}
 use Rattle.cluster_sched.specs.declared.row.SchedRow.{SchedRow}
 use Rattle.due_set.specs.Table.{IsSound, Table}
 use Rattle.launch_machine.specs.Answers.{IsIntent}
-use Rattle.launch_machine.specs.Clerk.{Applies, TakesEnd, TakesStart, closed_row, opened_row, with_row}
+use Rattle.launch_machine.specs.Clerk.{Applies, TakesEnd, TakesStart, TakesTable, adopted_row, closed_row, force_of, in_force, opened_row, with_row}
 use Rattle.launch_machine.specs.Intent.{MayCall}
+use Rattle.launch_machine.specs.declared.force.InForce.{InForce}
 use Rattle.launch_machine.specs.declared.machine.Intent.{Intent}
 use Rattle.launch_machine.specs.declared.machine.Intent.TheVariants as intent
 use Rattle.launch_machine.proofs.ExistLemmas.{one_applied}
@@ -97,6 +100,15 @@ started_anew table rows later job at now takes (inl (again, is)) same =
     let shut : Some now ≡ None = ap (λ (r : JobRow). r.open_now) opened ∙ takes.idle in
     cc
 
+-- so does a version that takes effect: it is then the one in force
+adopted_anew : (table : Table) (rows later : List JobRow) (version : ℕ) (now : ℤ) → TakesTable table rows version now → Applies table rows (TableEntry version now) later → later ≡ rows → ⊥
+adopted_anew table rows later version now takes (inr (not, is)) same = absurd (not takes)
+adopted_anew table rows later version now takes (inl (again, is)) same =
+    let own : ℕ = length table.jobs in
+    let put = ap force_of (get_or-set_same rows own (adopted_row version now (slice_index_or rows own (fresh_row own))) (fresh_row own) takes.own) in
+    let there = ap (λ (force : InForce). force.version) (ap (in_force table) (sym same ∙ is) ∙ put) in
+    omega (arith, there, takes.next)
+
 -- what the acts of a tick begin
 pub data Begun (self : Identity) (at : Progress) (best : List Vote) (sound : IsSound at.table) (now : ℤ) (wanted : Intent) (acts : List Act) (state : State) : Type 0 where
   begins_entry : (entry : Entry) → IsNeeded (proposal_of self best at (next_entry at sound entry) 0) → acts ≡ proposing self at entry → Begun self at best sound now wanted acts state
@@ -121,6 +133,11 @@ tick_begins self at best sound now wanted state asked leading =
         (rw (none_at at.prefix best none)
         (inr (started_anew at.table at.rows (next_entry at sound (Start job instant now)).later job instant now asked.1.takes (next_entry at sound (Start job instant now)).applies)))
         (ap (λ vote. propose self vote) (vote_is (Start job instant now)))
+    follow none (intent.Adopt version) asked =
+        begins_entry (bound_by (vote_at at.prefix best) (TableEntry version now))
+        (rw (none_at at.prefix best none)
+        (inr (adopted_anew at.table at.rows (next_entry at sound (TableEntry version now)).later version now asked.1 (next_entry at sound (TableEntry version now)).applies)))
+        (ap (λ vote. propose self vote) (vote_is (TableEntry version now)))
     follow none intent.Rest asked = says_lead none refl (ap (λ k. Send Others (Lead at.ballot k) ∷ []) leading.learned)
 
     go : (bound : List Vote) → votes_from at.prefix best ≡ bound → Begun self at best sound now wanted (lead_on self now wanted at.ballot best state (votes_from (prefix_of state) best)) state

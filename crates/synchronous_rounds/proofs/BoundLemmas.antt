@@ -7,7 +7,7 @@ use Rattle.paxos_base.specs.Durable.{after_delta}
 use Rattle.paxos_base.specs.Members.{has_majority, only_member, with_member}
 use Rattle.paxos_base.specs.Vote.{vote_at, votes_from}
 use Rattle.paxos_base.specs.declared.entry.Entry.{Entry}
-use Rattle.paxos_base.specs.declared.entry.Entry.TheVariants.{End, Noop, Start}
+use Rattle.paxos_base.specs.declared.entry.Entry.TheVariants.{End, Noop, Start, Table as TableEntry}
 use Rattle.paxos_base.specs.declared.entry.Vote.{Vote}
 use Rattle.paxos_base.specs.declared.rows.JobRow.{JobRow}
 use Rattle.cluster_sched.specs.declared.row.SchedRow.{SchedRow}
@@ -68,6 +68,7 @@ term_tick_none self now wanted state (Leader ballot best None) = go (votes_from 
     follow : (wanted : Intent) → SendNone (follow_intent self now wanted ballot best state)
     follow (intent.Call job at kind) = (tt, tt)
     follow (intent.Start job at) = propose_none self (proposal ballot best (prefix_of state) (Start job at now))
+    follow (intent.Adopt version) = propose_none self (proposal ballot best (prefix_of state) (TableEntry version now))
     follow intent.Rest = (tt, tt)
 
     go : (bound : List Vote) → SendNone (lead_on self now wanted ballot best state bound)

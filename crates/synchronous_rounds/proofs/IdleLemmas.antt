@@ -8,7 +8,7 @@ use Rattle.due_set.specs.Table.{Table}
 use Rattle.paxos_base.specs.declared.rows.JobRow.{JobRow}
 use Rattle.launch_machine.specs.Answers.{IsIntent}
 use Rattle.launch_machine.specs.declared.machine.Intent.{Intent}
-use Rattle.launch_machine.specs.declared.machine.Intent.TheVariants.{Call, Start, Rest}
+use Rattle.launch_machine.specs.declared.machine.Intent.TheVariants.{Call, Start, Adopt, Rest}
 use Rattle.launch_machine.proofs.ClerkLemmas.{AppliesAll-same}
 use Rattle.term_core.specs.declared.term.Term.TheVariants.{Leader}
 use Rattle.step_spec.specs.Act.{Send}
@@ -39,8 +39,9 @@ use Rattle.step_spec.proofs.DeltaLemmas.{tick-long}
 
 -- where the launch table asks for nothing, it asks for nothing else
 rests_only : (table : Table) (rows : List JobRow) (now : ℤ) (wanted : Intent) → IsIntent table rows now Rest → IsIntent table rows now wanted → wanted ≡ Rest
-rests_only table rows now (Call job instant kind) (no_call, no_start) (first, is) = absurd (no_call job instant first.may)
-rests_only table rows now (Start job instant) (no_call, no_start) (none, first) = absurd (no_start job instant first.takes)
+rests_only table rows now (Call job instant kind) (no_call, no_start, no_table) (first, is) = absurd (no_call job instant first.may)
+rests_only table rows now (Start job instant) (no_call, no_start, no_table) (none, first) = absurd (no_start job instant first.takes)
+rests_only table rows now (Adopt version) (no_call, no_start, no_table) (none, takes) = absurd (no_table version takes)
 rests_only table rows now Rest resting wanted = refl
 
 -- a leader that is idle says so at its tick

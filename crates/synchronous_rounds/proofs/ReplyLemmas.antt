@@ -5,7 +5,7 @@ use Rattle.std.proofs.lemmas.Bool.{cases_Bool, leb-true, ltb-true}
 use Rattle.paxos_base.specs.Durable.{after_delta}
 use Rattle.paxos_base.specs.Vote.{votes_from}
 use Rattle.paxos_base.specs.declared.entry.Entry.{Entry}
-use Rattle.paxos_base.specs.declared.entry.Entry.TheVariants.{End, Noop, Start}
+use Rattle.paxos_base.specs.declared.entry.Entry.TheVariants.{End, Noop, Start, Table as TableEntry}
 use Rattle.paxos_base.specs.declared.entry.Vote.{Vote}
 use Rattle.paxos_base.specs.declared.rows.JobRow.{JobRow}
 use Rattle.cluster_sched.specs.declared.row.SchedRow.{SchedRow}
@@ -54,6 +54,7 @@ term_tick_steady self now wanted state (Leader ballot best None) more small soun
     follow : (wanted : Intent) → IsSteady state (after_acts (follow_intent self now wanted ballot best state) state)
     follow (intent.Call job at kind) = same_steady state
     follow (intent.Start job at) = propose_steady self ballot best (Start job at now) state more small sound is
+    follow (intent.Adopt version) = propose_steady self ballot best (TableEntry version now) state more small sound is
     follow intent.Rest = same_steady state
 
     go : (bound : List Vote) → IsSteady state (after_acts (lead_on self now wanted ballot best state bound) state)

@@ -47,7 +47,7 @@ bare_sound = record {
 
 -- its launch table asks for nothing at any instant
 bare_rests : (rows : List JobRow) (now : ℤ) → IsIntent bare rows now Rest
-bare_rests rows now = rests_without_jobs bare rows now refl
+bare_rests rows now = rests_without_jobs bare rows now refl refl
 
 -- the launch table of a replica
 rows_then : (state : State) → (rows : List JobRow) × IsLaunchTable bare state rows

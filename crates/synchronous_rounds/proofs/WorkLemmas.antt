@@ -1,9 +1,9 @@
 -- The work of a leader falls where an entry is learned.
-use Rattle.std.proofs.Common.{◌≡◌, ℕ, suc, zero, ◌+◌, ◌<◌, ◌≤◌, ◌⊎◌, List, [], ◌∷◌, length, leb, ltb, Option, None, Some, ℤ, pos, refl, sym, ap, ◌∙◌, inl, inr, arith, subst}
+use Rattle.std.proofs.Common.{◌≡◌, ℕ, suc, zero, ◌+◌, ◌<◌, ◌≤◌, ◌⊎◌, List, [], ◌∷◌, length, leb, Option, None, Some, ℤ, pos, refl, sym, ap, ◌∙◌, inl, inr, arith, subst}
 use Rattle.std.specs.Prelude.{◌≤ℤ◌, ◌<ℤ◌, slice_get, slice_index_or, slice_set}
-use Rattle.std.proofs.lemmas.Bool.{cases_Bool, cases_eq, leb-true, ltb-false, ltb-true}
+use Rattle.std.proofs.lemmas.Bool.{cases_Bool, cases_eq, leb-true}
 use Rattle.std.proofs.lemmas.Int.{ints}
-use Rattle.std.proofs.lemmas.List.{get_or-set_other, get_or-set_same, set_past}
+use Rattle.std.proofs.lemmas.List.{get_or-set_other, get_or-set_same}
 use Rattle.std.proofs.lemmas.Option.{slice_get_within}
 use Rattle.paxos_base.specs.Rows.{fresh_row}
 use Rattle.paxos_base.specs.Vote.{votes_from}
@@ -127,28 +127,20 @@ end_version table rows job at kind takes = elim (cases_eq job (length table.jobs
       omega (arith, version)
 ]
 
--- an entry that takes effect leaves less to ask for, but for a version that finds no row of the table's own
+-- an entry that takes effect leaves less to ask for
 effect_falls : (table : Table) → IsSound table → (rows : List JobRow) (entry : Entry) → TakesEffect table rows entry
-    → (launch_work table (rows_after table rows entry) < launch_work table rows) ⊎ (rows_after table rows entry ≡ rows)
+    → launch_work table (rows_after table rows entry) < launch_work table rows
 effect_falls table sound rows Noop takes = absurd takes
-effect_falls table sound rows (TableEntry version now) takes = elim (cases_Bool (ltb own (length rows))) [
-  | inl here ↦
-      let put = ap force_of (get_or-set_same rows own (adopted_row version now old) (fresh_row own) (ltb-true own (length rows) here)) in
-      let version_is = ap (λ (force : InForce). force.version) put in
-      let kept = rows_kept table.window.until.0 own rows own (fresh_row own) version now (omega arith) in
-      inl (omega (arith, version_is, kept, takes.next, takes.known))
-  | inr past ↦ inr (set_past rows own (adopted_row version now old) (ltb-false own (length rows) past))
-]
-  where
-    own : ℕ
-    own = length table.jobs
-
-    old : JobRow
-    old = slice_index_or rows own (fresh_row own)
+effect_falls table sound rows (TableEntry version now) takes =
+    let own : ℕ = length table.jobs in
+    let put = ap force_of (get_or-set_same rows own (adopted_row version now (slice_index_or rows own (fresh_row own))) (fresh_row own) takes.own) in
+    let version_is = ap (λ (force : InForce). force.version) put in
+    let kept = rows_kept table.window.until.0 own rows own (fresh_row own) version now (omega arith) in
+    omega (arith, version_is, kept, takes.next, takes.known)
 effect_falls table sound rows (Start job at now) takes =
     let found = ap (λ (row : JobRow). rows_work until (length table.jobs) (slice_set rows job (opened_row at now row))) (row_found rows job takes.row (fresh_row job) takes.is_row) in
     let version = ap (λ (force : InForce). force.version) (started_force table rows (with_row (opened_row at now) rows job) job at now takes refl) in
-    inl (omega (arith, fallen, found, version))
+    omega (arith, fallen, found, version)
   where
     until : ℤ
     until = table.window.until.0
@@ -170,7 +162,7 @@ effect_falls table sound rows (End job at kind) takes =
     (λ past. end_closes at takes.since kind takes.row takes.is_open) in
     let found = ap (λ (row : JobRow). rows_work until (length table.jobs) (slice_set rows job (closed_row at kind row))) (row_found rows job takes.row (fresh_row job) takes.is_row) in
     let version = end_version table rows job at kind takes in
-    inl (omega (arith, fallen, found, version))
+    omega (arith, fallen, found, version)
 
 -- ---- both
 
@@ -180,10 +172,10 @@ learned_work proposal sound needed = go (moves proposal.applies) needed
   where
     moves : Applies proposal.at.table proposal.at.rows proposal.entry proposal.later
         → (launch_work proposal.at.table proposal.later < launch_work proposal.at.table proposal.at.rows) ⊎ (proposal.later ≡ proposal.at.rows)
-    moves (inl (takes, is)) = elim (effect_falls proposal.at.table sound proposal.at.rows proposal.entry takes) [
-      | inl fall ↦ let rows = ap (launch_work proposal.at.table) is in inl (omega (arith, fall, rows))
-      | inr same ↦ inr (is ∙ same)
-    ]
+    moves (inl (takes, is)) =
+        let fall = effect_falls proposal.at.table sound proposal.at.rows proposal.entry takes in
+        let rows = ap (launch_work proposal.at.table) is in
+        inl (omega (arith, fall, rows))
     moves (inr (not, is)) = inr is
 
     go : (launch_work proposal.at.table proposal.later < launch_work proposal.at.table proposal.at.rows) ⊎ (proposal.later ≡ proposal.at.rows) → IsNeeded proposal

@@ -10,7 +10,7 @@ use Rattle.paxos_base.specs.declared.entry.Vote.{Vote}
 use Rattle.paxos_base.specs.declared.rows.JobRow.{JobRow}
 use Rattle.launch_machine.specs.Answers.{IsIntent}
 use Rattle.launch_machine.specs.declared.machine.Intent.{Intent}
-use Rattle.launch_machine.specs.declared.machine.Intent.TheVariants.{Call, Start, Rest}
+use Rattle.launch_machine.specs.declared.machine.Intent.TheVariants.{Call, Start, Adopt, Rest}
 use Rattle.launch_machine.proofs.ClerkLemmas.{AppliesAll-same}
 use Rattle.step_spec.proofs.Lists.{nothing_in}
 use Rattle.step_spec.specs.State.{State, prefix_of}
@@ -59,6 +59,7 @@ some_none (Some x) is none = absurd cc
 not_rests : (table : Table) (at : ℤ) (rows : List JobRow) (intent : Intent) → IsIntent table rows at intent → IsIntent table rows at Rest → intent ≡ Rest
 not_rests table at rows (Call job call kind) is rests = absurd (rests.0 job call is.0.may)
 not_rests table at rows (Start job start) is rests = absurd (rests.1 job start is.1.takes)
+not_rests table at rows (Adopt version) is rests = absurd (rests.2 version is.1)
 not_rests table at rows Rest is rests = refl
 
 pub asks_none : (table : Table) (at : ℤ) (replica : ReplicaState) → IsOfTable table replica → IsIntent table replica.machine.rows at Rest → AsksNothing table at replica.state

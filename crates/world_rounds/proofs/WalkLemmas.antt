@@ -2,24 +2,28 @@
 use Rattle.std.proofs.Common.{◌≡◌, ℕ, zero, suc, ◌+◌, ◌<◌, ◌≤◌, true, false, List, [], ◌++◌, ℤ, pos, negsuc, ◌+ℤ◌, ◌≤ℤ◌, ◌<ℤ◌, None, Some, ◌⊎◌, length, refl, sym, ap, ◌∙◌, subst, inl, inr, arith, append_assoc, append-nil as append_nil}
 use Rattle.std.specs.Prelude.{unsigned_abs, ◌-ℤ◌}
 use Rattle.std.specs.Int.{int_min}
+use Rattle.std.specs.Option.{option_map}
 use Rattle.std.proofs.lemmas.Int.{clamps, ints}
 use Rattle.disk_model.specs.View.{DiskView}
 use Rattle.zone_minutes.specs.Window.{IsInWindow}
+use Rattle.zone_minutes.specs.declared.minute.Minute.{Minute}
 use Rattle.zone_minutes.specs.declared.minute.Window.{Window}
-use Rattle.due_set.specs.Table.{Table}
+use Rattle.due_set.specs.Table.{Table, version_from}
 use Rattle.history.specs.Book.{Row}
 use Rattle.script_semantics.specs.Parts.{Then}
 use Rattle.script_semantics.specs.Settling.{AsksNothing, AsksNothingUntil, Drains, IsNextMinute, Settles, Walks, WalksOn, coordinator}
 use Rattle.script_semantics.specs.Situation.{Situation}
 use Rattle.step_spec.specs.State.{State}
 use Rattle.world_rounds.specs.Quiet.{AllRun, IsIn, AnswersFor}
-use Rattle.world_rounds.specs.Walking.{AsksNothingIn, IsNoneOpen, WalkedOn}
+use Rattle.world_rounds.specs.Walking.{AsksNothingIn, IsNoneOpen, NoStartIn, NoTableIn, WalkedOn}
 use Rattle.world_rounds.specs.World.{GoesOnBy, IsWorld, IsWorldAt}
 use Rattle.world_rounds.specs.declared.world.World.{World}
+use Rattle.paxos_base.specs.declared.rows.JobRow.{JobRow}
 use Rattle.std.proofs.lemmas.Bool.{cases_eq, cases_lt}
 use Rattle.std.specs.List.{slice_get}
-use Rattle.launch_machine.specs.Clerk.{TakesStart}
-use Rattle.launch_machine.specs.Next.{StartsNoMore}
+use Rattle.launch_machine.specs.Clerk.{TakesStart, TakesTable}
+use Rattle.launch_machine.specs.Next.{next_version_from}
+use Rattle.launch_machine.proofs.EndedLemmas.{next_is}
 use Rattle.replica_core.specs.Replica.{ReplicaState}
 use Rattle.replica_core.specs.Step.{IsOfTable}
 use Rattle.replica_node.specs.Node.{replica_of}
@@ -37,29 +41,48 @@ asks_none_on table first minute end state so_far here behind = λ other from bel
   ]
 ]
 
--- ---- until the next start
+-- ---- until the next start and the next version
 
--- where no launch is open, and no start takes effect before an instant, nothing is asked for before it
-pub none_before : (table : Table) (replica : ReplicaState) (first : ℤ) (minute end : ℕ) → IsOfTable table replica → IsNoneOpen table replica.machine.rows
-    → ((job : ℕ) (at now : ℤ) → TakesStart table replica.machine.rows job at now → first ≤ℤ now) → (end ≤ minute + 1) ⊎ (pos end ≤ℤ first)
-    → AsksNothingIn table (minute + 1) end replica.state
-none_before table replica first minute end of_table none_open least ends = λ other from below. elim ends [
-  | inl empty ↦ absurd (omega (arith, from, below, empty))
-  | inr before ↦ asks_none table (pos other) replica of_table (
-    λ job at may.
-        let none : may.row.open_now ≡ None = none_open job may.row may.known may.is_row in
-        let both : Some may.since ≡ None = sym may.is_open ∙ none in cc,
-    λ job at takes.
-        let late = least job at (pos other) takes in
-        omega (arith, ints, late, before, below),
-  )
-]
+-- where no start takes effect before an instant, none does at a minute before it
+pub no_start_before : (table : Table) (rows : List JobRow) (soonest : ℤ) (first end : ℕ) → ((job : ℕ) (at now : ℤ) → TakesStart table rows job at now → soonest ≤ℤ now)
+    → (end ≤ first) ⊎ (pos end ≤ℤ soonest) → NoStartIn table first end rows
+no_start_before table rows soonest first end least (inl empty) = λ minute from below job at takes. omega (arith, from, below, empty)
+no_start_before table rows soonest first end least (inr before) = λ minute from below job at takes.
+    let late = least job at (pos minute) takes in
+    omega (arith, ints, late, before, below)
 
--- where none takes effect any more, nothing is asked for at all
-pub none_at_all : (table : Table) (replica : ReplicaState) (minute end : ℕ) → IsOfTable table replica → IsNoneOpen table replica.machine.rows
-    → StartsNoMore table replica.machine.rows → AsksNothingIn table (minute + 1) end replica.state
-none_at_all table replica minute end of_table none_open no_more =
-    none_before table replica (pos end) minute end of_table none_open (λ job at now takes. absurd (no_more job at now takes)) (inr (omega (arith, ints)))
+-- the version that would be adopted is the next one, from its instant on
+adopts_next : (table : Table) (rows : List JobRow) (version : ℕ) (now : ℤ) → TakesTable table rows version now → next_version_from table rows ≡ Some (record { 0 = version_from table version })
+adopts_next table rows version now takes =
+    ap (option_map (λ version. record { 0 = version_from table version })) (next_is table rows version takes.next takes.known)
+
+-- before that instant none is adopted
+pub no_table_before : (table : Table) (rows : List JobRow) (soonest : Minute) (first end : ℕ) → next_version_from table rows ≡ Some soonest
+    → (end ≤ first) ⊎ (pos end ≤ℤ soonest.0) → NoTableIn table first end rows
+no_table_before table rows soonest first end next (inl empty) = λ minute from below version takes. omega (arith, from, below, empty)
+no_table_before table rows soonest first end next (inr before) = λ minute from below version takes.
+    let same : Some soonest ≡ Some (record { 0 = version_from table version }) = sym next ∙ adopts_next table rows version (pos minute) takes in
+    let from_then : soonest.0 ≡ version_from table version = cc in
+    omega (arith, ints, from_then, takes.come, before, below)
+
+-- where there is no such version none is adopted at all
+pub no_table_more : (table : Table) (rows : List JobRow) (first end : ℕ) → next_version_from table rows ≡ None → NoTableIn table first end rows
+no_table_more table rows first end none = λ minute from below version takes.
+    no_soonest (record { 0 = version_from table version }) (sym none ∙ adopts_next table rows version (pos minute) takes)
+  where
+    no_soonest : (soonest : Minute) → None ≡ Some soonest → ⊥
+    no_soonest soonest is = cc
+
+-- where no launch is open, no start takes effect and no version is adopted, nothing is asked for
+pub none_asked : (table : Table) (replica : ReplicaState) (first start version end : ℕ) → IsOfTable table replica → IsNoneOpen table replica.machine.rows
+    → NoStartIn table first start replica.machine.rows → NoTableIn table first version replica.machine.rows → end ≤ start → end ≤ version → AsksNothingIn table first end replica.state
+none_asked table replica first start version end of_table none_open no_start no_table by_start by_version = λ minute from below. asks_none table (pos minute) replica of_table (
+  λ job at may.
+      let none : may.row.open_now ≡ None = none_open job may.row may.known may.is_row in
+      let both : Some may.since ≡ None = sym may.is_open ∙ none in cc,
+  no_start minute from (omega (arith, below, by_start)),
+  no_table minute from (omega (arith, below, by_version)),
+)
 
 -- what holds of the minutes from a number on holds of those above a minute
 number_at : (above : ℤ) (first : ℕ) (other : ℤ) → pos first ≡ above +ℤ pos 1 → pos 0 ≤ℤ above → above <ℤ other → (minute : ℕ) × (other ≡ pos minute) × (first ≤ minute)

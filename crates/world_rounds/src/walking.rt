@@ -2,6 +2,8 @@
 ghost use Rattle.std.specs.Prelude.{◌≡◌, ◌⊎◌, ◌+◌, ◌<◌, ◌≤◌, ◌^◌, ◌≤ℤ◌, ◌+ℤ◌, pos, false, IfNone, IfSome, OnOk, OnErr, length};
 ghost use Rattle.std.specs.Int.{int_min};
 ghost use Rattle.zone_minutes.specs.Window.{IsInWindow};
+ghost use Rattle.due_set.specs.Table.{Table};
+ghost use Rattle.launch_machine.specs.Machine.{StandsFor};
 ghost use Rattle.script_semantics.specs.Settling.{AsksNothingUntil, IsNextMinute, Walks, WalksOn};
 ghost use Rattle.script_semantics.specs.Situation.{Situation};
 ghost use Rattle.replica_core.specs.Step.{IsOfTable};
@@ -9,7 +11,7 @@ ghost use Rattle.settling.specs.Settles.{LeadsNow};
 ghost use Rattle.world_rounds.specs.Bounds.{IsBookBounded, IsFaultlessIn};
 ghost use Rattle.world_law.specs.Book.{IsLegalBook};
 ghost use Rattle.world_rounds.specs.Quiet.{AllRun, IsIn};
-ghost use Rattle.world_rounds.specs.Walking.{AsksNothingIn, IsNoneOpen};
+ghost use Rattle.world_rounds.specs.Walking.{AsksNothingIn, IsNoneOpen, NoStartIn, NoTableIn};
 ghost use Rattle.world_rounds.specs.World.{GoesOnBy, IsWorld, book_of};
 
 use crate::world::World;
@@ -56,8 +58,32 @@ fn is_any_open(replica: &Replica, table: &JobTable) -> bool
     false
 }
 
+// The number of the minute of the next start, or this number where that is later, as far as 32 bits go.
+fn start_number(replica: &Replica, number: u32) -> u32
+    ensures least { number ≤ result }
+    ensures none { (table : Table) → StandsFor table replica.now.machine → NoStartIn table number result replica.now.machine.rows }
+{
+    match replica.machine().next_start() {
+        Some(first) => later_number(number, first),
+        None => u32::MAX,
+    }
+}
+
+// The number of the minute from which on the next version of the table may be adopted, or this number where that is later, as
+// far as 32 bits go.
+fn version_number(replica: &Replica, table: &JobTable, number: u32) -> u32
+    requires of_table { IsOfTable table.now replica.now }
+    ensures least { number ≤ result }
+    ensures none { NoTableIn table.now number result replica.now.machine.rows }
+{
+    match replica.machine().next_version_from(table) {
+        Some(from) => later_number(number, from),
+        None => u32::MAX,
+    }
+}
+
 // The number of a later minute than this one, between which and it the launch table asks for nothing: that of the next
-// start, where no launch is open.
+// start, or that from which on the next version may be adopted where it is sooner, where no launch is open.
 fn next_to_look_at(replica: &Replica, table: &JobTable, minute: u32) -> u32
     requires of_table { IsOfTable table.now replica.now }
     requires low { minute < 2 ^ 31 }
@@ -68,10 +94,9 @@ fn next_to_look_at(replica: &Replica, table: &JobTable, minute: u32) -> u32
     if is_any_open(replica, table) {
         return later;
     }
-    match replica.machine().next_start() {
-        Some(first) => later_number(later, first),
-        None => u32::MAX,
-    }
+    let start = start_number(replica, later);
+    let version = version_number(replica, table, later);
+    start.min(version)
 }
 
 impl<D: Disk> World<D> {

@@ -8,4 +8,4 @@ pub returns-clause-later : goal.returns-clause-later
 returns-clause-later c = later
 
 pub returns-clause-all : goal.returns-clause-all
-returns-clause-all c = λ bytes table book nodes job at run. each_within_grace bytes table book nodes run job at
+returns-clause-all c = each_within_grace

@@ -8,4 +8,4 @@ pub returns-clause-rise : goal.returns-clause-rise
 returns-clause-rise c = dates_rise
 
 pub returns-clause-apart : goal.returns-clause-apart
-returns-clause-apart c = λ bytes table book nodes a b job period first last run. dates_apart bytes table book nodes run a b job period first last
+returns-clause-apart c = dates_apart

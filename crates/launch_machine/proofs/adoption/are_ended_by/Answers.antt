@@ -3,8 +3,8 @@ use Rattle.std.proofs.lemmas.Int.{to_z-of_z}
 use Rattle.std.proofs.lemmas.Option.{slice_get-get_or}
 use Rattle.paxos_base.specs.Rows.{fresh_row}
 use Rattle.paxos_base.specs.declared.rows.JobRow.{JobRow}
-use Rattle.launch_machine.specs.Machine.{IsEndedRow}
-use Rattle.launch_machine.proofs.EndedLemmas.{AreEndedBelow, ended_all, ended_next, ended_row}
+use Rattle.launch_machine.specs.Clerk.{IsEndedRow}
+use Rattle.launch_machine.proofs.EndedLemmas.{AreEndedBelow, ended_all, ended_next}
 use Rattle.launch_machine.proofs.adoption.are_ended_by.Goals as goal
 
 pub loop-job-preserved : goal.loop-job-preserved
@@ -23,7 +23,7 @@ returns-then-not-is_ended c =
     let below : c.loop-job.job < length c.args.table.now.jobs = omega (arith, c.jobs-job-end.ensures.count, c.loop-job-test.true) in
     let lt : c.loop-job.job < length c.args.rows.now = omega (arith, c.requires.numbered.count, below) in
     let told : IsEndedRow c.args.table.now c.args.now c.loop-job.job row → IsTrue c.is_ended.result = simp to_z-of_z at c.is_ended.ensures.1 in
-    (λ e. absurd cc, λ ended. absurd (cc (told (ended_row c.args.table.now c.args.rows.now c.args.now c.loop-job.job row ended below (slice_get-get_or c.args.rows.now c.loop-job.job (fresh_row 0) lt)), c.if-not-is_ended.true)))
+    (λ e. absurd cc, λ ended. absurd (cc (told (ended c.loop-job.job row (slice_get-get_or c.args.rows.now c.loop-job.job (fresh_row 0) lt)), c.if-not-is_ended.true)))
 
 pub returns : goal.returns
 returns c =

@@ -1,4 +1,4 @@
-use Rattle.run_outcome.proofs.SaidLemmas.{said_chosen, said_one, said_follow, said_once, said_backed, said_says, said_order, said_plain, said_learned, said_effective, said_settled, said_ended, said_later, said_at_once, said_all}
+use Rattle.run_outcome.proofs.SaidLemmas.{said_chosen, said_one, said_follow, said_once, said_backed, said_says, said_order, said_adopted, said_learned, said_effective, said_settled, said_ended, said_later, said_at_once, said_all}
 use Rattle.run_outcome.proofs.whole.what_a_whole_run_says.Goals as goal
 
 pub returns-clause-chosen : goal.returns-clause-chosen
@@ -22,8 +22,8 @@ returns-clause-says c = said_says
 pub returns-clause-order : goal.returns-clause-order
 returns-clause-order c = said_order
 
-pub returns-clause-plain : goal.returns-clause-plain
-returns-clause-plain c = said_plain
+pub returns-clause-adopted : goal.returns-clause-adopted
+returns-clause-adopted c = said_adopted
 
 pub returns-clause-learned : goal.returns-clause-learned
 returns-clause-learned c = said_learned

@@ -1,5 +1,5 @@
 use Rattle.launch_safety.proofs.Whole.{first_in_log, first_started, no_adoptions}
-use Rattle.launch_safety.proofs.histories.a_legal_log_adopts_no_version.Goals as goal
+use Rattle.launch_safety.proofs.histories.a_log_may_stay_by_the_first_version.Goals as goal
 
 pub returns-clause-none : goal.returns-clause-none
 returns-clause-none c = no_adoptions
