@@ -94,5 +94,8 @@ taken_back window members (first ∷ rest) (suc place) taken = taken_back window
 pub first_in : (window : Window) → IsHour window → IsInWindow window (pos 28_530_720)
 first_in window is = let from = is.from in let until = is.until in record { since = omega (arith, ints, from); before = omega (arith, ints, until) }
 
+pub last_in : (window : Window) → IsHour window → IsInWindow window (pos 28_530_779)
+last_in window is = let from = is.from in let until = is.until in record { since = omega (arith, ints, from); before = omega (arith, ints, until) }
+
 pub later_in : (window : Window) → IsHour window → IsInWindow window (pos 28_530_730)
 later_in window is = let from = is.from in let until = is.until in record { since = omega (arith, ints, from); before = omega (arith, ints, until) }

@@ -14,7 +14,8 @@ pub const FROM: Minute = Minute(28_530_720);
 /// An instant within it.
 pub const LATER: Minute = Minute(28_530_730);
 
-const HOUR: Window = Window {
+/// The hour from then on.
+pub const HOUR: Window = Window {
     from: FROM,
     until: Minute(28_530_780),
 };
@@ -39,8 +40,8 @@ const FOUR_HOURS: Window = Window {
     until: Minute(28_530_960),
 };
 
-// A job runs at these minutes of each hour.
-fn each_hour(minutes: &str) -> Option<Fields> {
+/// A job runs at these minutes of each hour.
+pub fn each_hour(minutes: &str) -> Option<Fields> {
     Some(Fields {
         minute: field_of(FieldKind::Minute, minutes)?,
         hour: field_of(FieldKind::Hour, "*")?,

@@ -6,7 +6,8 @@
 //! another (`meets`). Parts of free turns: a gate brings about both orders of two replicas (`orders`), three
 //! replicas and seven take 200 turns each, one is armed to stop (`after_free`), and threads wait for each other at a
 //! gate and in a sync, so that they run at once (`threads`). While five run, each looks at a board before each of its
-//! 2,000 turns: each view comes, and the prefixes never fall (`views`).
+//! 2,000 turns: each view comes, and the prefixes never fall (`views`). A walk goes on over
+//! the adoption of a version (`versions`).
 #![tactic(auto)]
 
 #[cfg(test)]
@@ -33,6 +34,8 @@ mod rounds;
 mod settles;
 #[cfg(test)]
 mod threads;
+#[cfg(test)]
+mod versions;
 #[cfg(test)]
 mod views;
 #[cfg(test)]
