@@ -11,6 +11,7 @@ from unittest import mock
 from small_world.changed import changed
 from small_world.disk import KEPT, LOST, Arm, Disk
 from small_world.files import File, Files
+from small_world.jobs import Version
 from small_world.launches import LAUNCH, NOOP, End, Start, fresh_rows
 from small_world.laws import Broken, WatchedWorld
 from small_world.made import break_run
@@ -24,7 +25,8 @@ ONE, SIX_PAST, LAST = "2024-03-31T01:00Z", "2024-03-31T01:06Z", "2024-03-31T01:5
 ROUND = f"round {ONE} 1"
 LAUNCHED = ["job alice:1 launched 1 void 0", "launch alice:1@20240331T0100Z"]
 GIVEN_UP = ["job alice:1 launched 0 void 1", "void alice:1@20240331T0100Z"]
-ROWS = fresh_rows(["a job"])
+VERSIONS = [Version(0, ["a job"])]
+ROWS = fresh_rows(VERSIONS)
 VOTE, TABLE = ("voted", 3, 16, NOOP), ("base", 10, ROWS)
 # A vote was saved before, and a base, or two of them.
 BEFORE = ("tried", 9), ("voted", 2, 16, NOOP)
@@ -105,7 +107,7 @@ class Arms(unittest.TestCase):
 
     def saved(self, change, bases, arm):
         """What becomes of a change, where so many bases were kept before."""
-        disk, files = Disk(), Files(1, ["a job"])
+        disk, files = Disk(), Files(1, VERSIONS)
         for before in (*BEFORE, *(("base", slot, ROWS) for slot in range(1, bases + 1))):
             disk.save(before)
             files.save(before)
@@ -135,12 +137,12 @@ class Arms(unittest.TestCase):
         promise = bytes([2]) + bytes(14) + bytes([8]) + bytes(40)
         told = [("", "", 0), ("1", "", 0), ("1P", "", 0), ("0P1", "", 0), ("1P0", "", 8), ("1P1", "", 8), ("1P1P0", "", None), ("1P0", "\xff", 0)]
         for area, chooser, promised in told:
-            files = Files(1, ["a job"])
+            files = Files(1, VERSIONS)
             files.areas[0] = File(b"".join(promise if part == "P" else bytes([int(part)]) for part in area))
             files.chooser = File(chooser.encode("latin-1"))
             files.attach()
             self.assertEqual(files.kept and files.kept.promised, promised, area)
-        for more, kept in ((56, Files(1, ["a job"]).kept), (57, None)):
+        for more, kept in ((56, Files(1, VERSIONS).kept), (57, None)):
             files.areas[1] = File(b"\1" + b"\xff" * more)
             files.attach()
             self.assertEqual(files.kept, kept)
@@ -157,7 +159,7 @@ class Arms(unittest.TestCase):
     def test_files_go_on_behind_a_stop(self):
         chance = random.Random(0)
         for _ in range(300):
-            disk, files, slot, ballot = Disk(), Files(2, ["a job"]), 0, 2
+            disk, files, slot, ballot = Disk(), Files(2, VERSIONS), 0, 2
             for _ in range(12):
                 slot, ballot = slot + 1, ballot + 8
                 changes = [("tried", ballot), ("promised", ballot + 1), ("voted", slot, ballot, Start(0, slot, slot)), ("base", slot, ROWS)]

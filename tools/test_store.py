@@ -9,6 +9,7 @@ from unittest import mock
 
 from small_world.disk import Disk
 from small_world.files import BODY, base_bodies, kept_by
+from small_world.jobs import Version
 from small_world.laws import Broken
 from small_world.launches import LAUNCH, NOOP, VOID, End, Row, Start, Table, apply
 from small_world.letters import fault_of, letter_bytes, packets_in
@@ -22,7 +23,8 @@ TRIED = ["kept: tried 1, promised 1.0, base 0", "row job 0", "row table"]
 # The record of ballot 1.0 as one that is tried, behind an open gate and before a shut one.
 RECORD = f"01{'01' + 14 * '00' + '08' + 40 * '00'}00"
 PREPARE = "01010000" + "00000000" + "0000000000000009" + 40 * "00"
-# The rows of a table with one job.
+# A table with one job, of one version, and its rows.
+VERSIONS = [Version(0, ["a job"])]
 ROWS = [Row(20, 21, None, 1, 2), Row()]
 # Rows that aren't those of such a table: one too few, as they were before the table had a row of its own; one too many; and with a last
 # one that has what the table's own may not have.
@@ -86,7 +88,7 @@ class Stores(unittest.TestCase):
 
     def test_rows_that_stand_for_nothing(self):
         def kept(rows):
-            return kept_by([BODY.unpack(one) for one in base_bodies(Kept(0, 0, {}, 0, []), 0, 5, rows)], ["a job"])
+            return kept_by([BODY.unpack(one) for one in base_bodies(Kept(0, 0, {}, 0, []), 0, 5, rows)], VERSIONS)
 
         self.assertEqual(kept(ROWS), Kept(0, 0, {}, 5, ROWS))
         for rows in OTHER_ROWS:
@@ -126,12 +128,12 @@ class Nodes(unittest.TestCase):
         self.assertEqual(told("start", f"hear {PREPARE}{PREPARE}"), ["fault Letter(BadGroup { packet: 1 })"])
         self.assertEqual(told("start", "tick 2024-03-31T01:00Z")[0][:27], "refused: the stamp is outsi")
 
-    def test_an_adoption_takes_no_effect(self):
-        """It is learned, and the launch table stays as it is."""
+    def test_an_adoption_of_no_version(self):
+        """Where the table has one version, an adoption of another is learned, and the launch table stays as it is."""
         known = letter_bytes(1, [Known(0, Table(1, 20))]).hex()
         self.assertEqual(told("start", f"hear {known}"), ["learned 0: version 1 minute 20"])
         rows = list(ROWS)
-        apply([], rows, Table(1, 22))
+        apply(VERSIONS, rows, Table(1, 22))
         self.assertEqual(rows, ROWS)
 
     def test_snapshots(self):

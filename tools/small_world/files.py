@@ -124,15 +124,15 @@ def copy_length(records, base):
     return place
 
 
-def kept_by(records, jobs):
+def kept_by(records, versions):
     """What records stand for; nothing where they stand for nothing."""
-    kept = Kept(0, 0, {}, 0, fresh_rows(jobs))
+    kept = Kept(0, 0, {}, 0, fresh_rows(versions))
     if records and records[0][0] == BASE:
         base, count = records[0][6], records[0][7]
         group, records = records[1 : 1 + count], records[1 + count :]
         in_order = [(record[0], record[4], record[6]) for record in group] == [(ROW, place, base) for place in range(count)]
         rows = [row_of(record) for record in group]
-        if not in_order or not rows_stand(rows, jobs):
+        if not in_order or not rows_stand(rows, versions):
             return None
         copy, records = records[: copy_length(records, base)], records[copy_length(records, base) :]
         votes = {record[6]: Vote(record[5], change_of(record)[3]) for record in copy if record[0] == VOTED}
@@ -148,9 +148,9 @@ def kept_by(records, jobs):
 class Areas:
     """The chooser and two areas of a disk."""
 
-    def __init__(self, me, jobs):
+    def __init__(self, me, versions):
         self.me = me
-        self.jobs = jobs
+        self.versions = versions
         self.chooser = File()
         self.areas = [File(), File()]
 
@@ -187,8 +187,8 @@ class Areas:
 class Files(Areas):
     """Files that are attached. Where they are armed, as many calls succeed as were left, and within the next one the disk stops."""
 
-    def __init__(self, me, jobs):
-        super().__init__(me, jobs)
+    def __init__(self, me, versions):
+        super().__init__(me, versions)
         self.arm = None
         self.attach()
 
@@ -201,7 +201,7 @@ class Files(Areas):
         if file.content[GATED * self.count :][:1] != SHUT:
             file.write(GATED * self.count, SHUT)
             file.sync()
-        self.kept = kept_by([BODY.unpack(one) for one in bodies], self.jobs)
+        self.kept = kept_by([BODY.unpack(one) for one in bodies], self.versions)
 
     def save(self, change):
         """Saves a change, and tells whether the disk stopped within. Then the files are what the stop leaves, attached anew."""

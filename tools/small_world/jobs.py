@@ -2,6 +2,7 @@
 crontab's entry a launch is known by its instant, of an anacrontab's job by its date, as the number of days since the epoch."""
 import re
 from bisect import bisect_right
+from typing import NamedTuple
 
 from run_file_lib.anacrontabs import fnv
 from run_file_lib.crontabs import NICKNAMES
@@ -13,17 +14,57 @@ from .instants import DAY, date_of, stamp_of
 DAYS = {"@daily": 1, "@weekly": 7}
 
 
-class Entry:
+class Version(NamedTuple):
+    """A version of a table: the minute from which on it may be adopted, and the jobs in order as it has them. Each version of a table has
+    the same names in the same places."""
+
+    first: int
+    jobs: list
+
+
+class Job:
+    """A job by its name. One with a `/` runs by its period in each version that has it, and any other at its due instants. What isn't
+    said otherwise is so of a job that isn't launched."""
+
+    def __init__(self, name):
+        self.name = name
+        self.by_period = "/" in name
+        # The instants of a window at which it is due.
+        self.dues = []
+
+    def prepare(self, first, end):
+        """Works out the instants of a window at which it is due."""
+
+    def start_at(self, row, now, since):
+        """The launch that may start at a clock reading, by the job's row of the launch table and the minute since when the version is in
+        force, if there is one; none where none may."""
+
+    def has_come(self, at, now):
+        return at <= now
+
+    def is_in_time(self, at, now, grace):
+        return now <= at + grace
+
+    def title(self, at):
+        """The name of a launch."""
+        when = date_of(at) if self.by_period else stamp_of(at).replace("-", "").replace(":", "")
+        return f"{self.name}@{when}"
+
+    def listed(self):
+        """The lines of a due list that are of it."""
+        return [f"job {self.name} version 0 count {len(self.dues)}"]
+
+
+class Entry(Job):
     """An entry of five fields: its zone, and when it is due within a window."""
 
     def __init__(self, name, zone, texts, owner, command):
-        self.name = name
+        super().__init__(name)
         self.zone = zone
         self.values = [values_of(place, text, owner, command) for place, text in enumerate(texts)]
         self.stars = [text.startswith("*") for text in texts]
         self.times = {60 * hour + minute for hour in self.values[1] for minute in self.values[0]}
         self.days = {}
-        self.dues = []
 
     def is_day(self, day):
         if day not in self.days:
@@ -47,58 +88,34 @@ class Entry:
         return shown - before - 1 < 180 and any(map(self.matches, range(before + 1, shown)))
 
     def prepare(self, first, end):
-        """Works out the instants of a window at which it is due."""
         self.dues = [minute for minute in range(first, end) if self.is_due(minute)]
 
-    def start_at(self, row, now):
-        """The launch that may start at a clock reading, by the job's row of the launch table; none where none may."""
-        place = 0 if row.cursor is None else bisect_right(self.dues, row.cursor)
+    def behind(self, instant):
+        """How many of its due instants aren't later than an instant, if there is one."""
+        return 0 if instant is None else bisect_right(self.dues, instant)
+
+    def start_at(self, row, now, since):
+        place = max(self.behind(row.cursor), self.behind(since))
         return self.dues[place] if place < len(self.dues) and self.dues[place] <= now else None
 
-    def has_come(self, at, now):
-        return at <= now
-
-    def is_in_time(self, at, now, grace):
-        return now <= at + grace
-
-    def title(self, at):
-        """The name of a launch."""
-        return f"{self.name}@{stamp_of(at).replace('-', '').replace(':', '')}"
-
     def listed(self):
-        """The lines of a due list that are of it."""
         lines = [f"due {self.title(minute)} {stamp_of(self.zone.local(minute))[:-1]}" for minute in self.dues]
-        return [f"job {self.name} version 0 count {len(self.dues)}", *lines]
+        return [*super().listed(), *lines]
 
 
-class Never:
+class Never(Job):
     """A job that is never launched."""
 
-    def __init__(self, name):
-        self.name = name
 
-    def prepare(self, first, end):
-        pass
-
-    def start_at(self, row, now):
-        return None
-
-    def listed(self):
-        return [f"job {self.name} version 0 count 0"]
-
-
-class Periodic:
+class Periodic(Job):
     """A job of an anacrontab: its zone, its period, and the minutes of the day from which on and before which it starts."""
 
     def __init__(self, name, zone, period, first, last):
-        self.name = name
+        super().__init__(name)
         self.zone = zone
         self.period = period
         self.first = first
         self.last = last
-
-    def prepare(self, first, end):
-        pass
 
     def is_over(self, last, day):
         """Whether its period is over on a date, by the date of its last launch."""
@@ -109,7 +126,7 @@ class Periodic:
             return before.year < date.year
         return day - last >= (DAYS.get(self.period) or int(self.period))
 
-    def start_at(self, row, now):
+    def start_at(self, row, now, since):
         day, time = divmod(self.zone.local(now), DAY)
         later = row.cursor is None or row.cursor < day
         allowed = later and self.first <= time < self.last
@@ -120,9 +137,6 @@ class Periodic:
 
     def is_in_time(self, at, now, grace):
         return at == self.zone.local(now) // DAY
-
-    def title(self, at):
-        return f"{self.name}@{date_of(at)}"
 
     def listed(self):
         return [f"anacron {self.name} version 0"]
@@ -183,3 +197,11 @@ def jobs_of(zones, kind, label, zone, lines):
     if kind == "anacrontab":
         return list(periodic_jobs_of(zones[zone], label, lines))
     return list(entries_of(zones, kind, label, zone, lines))
+
+
+def versions_of(told):
+    """The versions of a table, of each of which its first minute is told, and its jobs; a job that a version lacks is never launched
+    there."""
+    names = dict.fromkeys(job.name for _, jobs in told for job in jobs)
+    owned = [(first, {job.name: job for job in jobs}) for first, jobs in told]
+    return [Version(first, [own.get(name) or Never(name) for name in names]) for first, own in owned]

@@ -2,10 +2,10 @@
 in the log before it was called, each drain ends within its bounds, and where a disk stops within a write, its files stand for what
 is kept."""
 from collections import Counter, defaultdict
+from operator import le
 
 from .files import Files
-from .jobs import Entry, Periodic
-from .launches import LAUNCH, End, Start, apply, fresh_rows, takes_effect
+from .launches import LAUNCH, End, Start, Table, apply, fresh_rows, takes_effect
 from .replica import MOST_ENTRIES, Accept, Accepted, Follower, Known, Lead, Nack, Prepare, Promise, Snap
 from .world import World
 
@@ -32,15 +32,17 @@ class WatchedWorld(World):
         self.seen = Counter()
         self.voters = defaultdict(set)
         self.chosen = {}
-        # The launch tables after each entry of the log, and the launches that the log started and ended.
-        self.tables = [tuple(fresh_rows(run.jobs))]
-        self.started = [[] for _ in run.jobs]
+        # The launch tables after each entry of the log, the launches that the log started, each with the version by which, and ended, and
+        # the minutes at which it adopted versions.
+        self.tables = [tuple(fresh_rows(run.versions))]
+        self.started = [{} for _ in run.jobs]
         self.ended = {}
+        self.adopted = []
         self.campaigns = 0
         self.checked = {}
         # Where disks are armed, the files of each.
         has_break = any(command[0] == "break" for command in run.script)
-        self.files = [Files(who, run.jobs) for who in self.members] if has_break else []
+        self.files = [Files(who, run.versions) for who in self.members] if has_break else []
 
     # What is chosen, and what agrees with it.
 
@@ -75,13 +77,20 @@ class WatchedWorld(World):
     def extend(self, entry):
         """The log gains an entry."""
         rows = list(self.tables[-1])
-        if takes_effect(self.run.jobs, rows, entry):
-            if isinstance(entry, Start):
-                self.started[entry.job].append(entry.at)
-            else:
-                self.check_end(entry)
-        apply(self.run.jobs, rows, entry)
+        if takes_effect(self.run.versions, rows, entry):
+            self.count(entry)
+        apply(self.run.versions, rows, entry)
         self.tables.append(tuple(rows))
+
+    def count(self, entry):
+        """Counts an entry of the log that takes effect."""
+        if isinstance(entry, Start):
+            claim(entry.at not in self.started[entry.job], "no launch is started twice")
+            self.started[entry.job][entry.at] = len(self.adopted)
+        elif isinstance(entry, End):
+            self.check_end(entry)
+        elif isinstance(entry, Table):
+            self.adopted.append(entry.now)
 
     def check_end(self, end):
         held = self.ledger.held.get((end.job, end.at))
@@ -173,11 +182,12 @@ class WatchedWorld(World):
         self.seen["drain"] += 1
 
     def work(self, who):
-        """What the leader has left to do at most, in rounds: seven for each vote that binds it and for each step of a job's
-        cursor, and those until what it does now is chosen."""
+        """What the leader has left to do at most, in rounds: seven for each vote that binds it, for each step of a job's cursor and
+        for each version to come, and those until what it does now is chosen."""
         leader = self.replicas[who]
         bound = sum(max(0, slot + 1 - leader.prefix) for slot in leader.term.best)
-        work = bound + sum(left_in(row, self.run.end) for _, row in zip(self.run.jobs, leader.launches))
+        *rows, own = leader.launches
+        work = bound + sum(left_in(row, self.run.end) for row in rows) + len(self.run.versions) - 1 - own.launched
         due = len(leader.learned) >= MOST_ENTRIES
         if leader.term.flight:
             return 7 * work + 3 - leader.term.flight.waited + due
@@ -195,18 +205,44 @@ class WatchedWorld(World):
         return self
 
     def check_ends(self, by_script):
-        """Each due instant is closed, as a launch where it is later than each clock reading of the script; and what is kept can be read."""
+        """Each due instant is closed, as a launch where it is later than each clock reading of the script; each version is adopted; and
+        what is kept can be read."""
         self.check_files(self.files)
         claim({name: call.kind for name, call in self.ledger.held.items()} == self.ended, "all that is held has ended in the log")
+        self.check_versions()
         for number, job in enumerate(self.run.jobs):
-            if isinstance(job, Entry):
-                claim(self.started[number] == job.dues, "each due instant is started once, in order")
-                launched = [at for at in job.dues if self.ended[number, at] == LAUNCH]
-                claim(all(at in launched for at in job.dues if at > by_script), "each later due instant is launched")
-            if isinstance(job, Periodic):
-                claim(self.started[number] == sorted(set(self.started[number])), "dates rise")
-                dates = [at for at in self.started[number] if self.ended.get((number, at)) == LAUNCH]
-                claim(all(job.is_over(*pair) for pair in zip(dates, dates[1:])), "launches are a period apart")
+            if job.by_period:
+                self.check_dates(number)
+            else:
+                self.check_dues(number, by_script)
+
+    def check_versions(self):
+        """By the last minute no version is left that might be adopted."""
+        firsts = [version.first for version in self.run.versions[1:]]
+        claim(len(self.adopted) == len(firsts), "each version is adopted")
+        claim(all(map(le, firsts, self.adopted)), "no version is adopted before its first minute")
+        claim(self.adopted == sorted(self.adopted), "no version is adopted before an earlier one")
+
+    def dues_of(self, number):
+        """The due instants of a job, by the versions that the log adopts: each counts from the minute after its adoption on, up to that
+        of the next one."""
+        bounds = [self.run.first - 1, *self.adopted, self.run.end]
+        parts = zip(self.run.versions, bounds, bounds[1:])
+        return [at for version, after, last in parts for at in version.jobs[number].dues if after < at <= last]
+
+    def check_dues(self, number, by_script):
+        dues = self.dues_of(number)
+        claim(list(self.started[number]) == dues, "each due instant is started once, in order")
+        launched = [at for at in dues if self.ended[number, at] == LAUNCH]
+        claim(all(at in launched for at in dues if at > by_script), "each later due instant is launched")
+
+    def check_dates(self, number):
+        """By the version by which it was started, each launch is a period behind the one before."""
+        started = self.started[number]
+        claim(list(started) == sorted(started), "dates rise")
+        dates = [at for at in started if self.ended.get((number, at)) == LAUNCH]
+        for last, day in zip(dates, dates[1:]):
+            claim(self.run.versions[started[day]].jobs[number].is_over(last, day), "launches are a period apart")
 
 
 def left_in(row, end):

@@ -112,7 +112,7 @@ class Replica:
         self.run = run
         self.majority = run.members // 2 + 1
         self.others = [other for other in range(run.members) if other != me]
-        self.keep(Kept(0, 0, {}, 0, fresh_rows(run.jobs)))
+        self.keep(Kept(0, 0, {}, 0, fresh_rows(run.versions)))
         self.start()
 
     def kept(self):
@@ -238,7 +238,7 @@ class Replica:
 
     def learn(self, step, entry):
         step.learned.append((self.prefix, entry))
-        apply(self.run.jobs, self.launches, entry)
+        apply(self.run.versions, self.launches, entry)
         self.learned.append(entry)
         self.end_flight()
 

@@ -2,7 +2,7 @@
 from datetime import timezone
 
 from .instants import Zone, minute_of, zone_of
-from .jobs import jobs_of
+from .jobs import jobs_of, versions_of
 
 
 def sections_of(lines):
@@ -19,7 +19,8 @@ def sections_of(lines):
 
 
 class RunFile:
-    """What a run file says: how many replicas there are, the window, the grace, the jobs, and the commands as lists of words."""
+    """What a run file says: how many replicas there are, the window, the grace, the one version of the jobs, and the commands as lists
+    of words."""
 
     def __init__(self, text):
         lines = text.split("\n")
@@ -30,8 +31,16 @@ class RunFile:
         zones = {"UTC": Zone(timezone.utc)}
         for words in (line.split(" ", 3) for line in lines if line.startswith("zone ")):
             zones[words[1]] = zone_of(*words[2:])
-        self.jobs = [job for kind, label, zone, _, table in sections_of(lines) for job in jobs_of(zones, kind, label, zone, table)]
-        for job in self.jobs:
-            job.prepare(self.first, self.end)
+        jobs = [job for kind, label, zone, _, table in sections_of(lines) for job in jobs_of(zones, kind, label, zone, table)]
+        self.take_versions([(self.first, jobs)])
         begin = lines.index("script", 4) + 1
         self.script = [line.split(" ") for line in lines[begin : lines.index("end", begin)]]
+
+    def take_versions(self, told):
+        """Takes versions of the jobs in place of those that it has: of each the minute from which on it may be adopted, and the jobs that
+        it has. `jobs` are those of the first one, whose names are those of each."""
+        self.versions = versions_of(told)
+        self.jobs = self.versions[0].jobs
+        for version in self.versions:
+            for job in version.jobs:
+                job.prepare(self.first, self.end)

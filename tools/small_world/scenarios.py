@@ -4,7 +4,7 @@ import copy
 from datetime import timezone
 
 from .instants import Zone, minute_of, stamp_of
-from .jobs import Entry
+from .jobs import Entry, Version
 from .launches import NOOP, Row, Start, fresh_rows, rows_stand
 from .replica import Accept, Accepted, AskFrom, Known, Lead, Prepare, Promise, Replica, Snap
 from .words import Words, term_words
@@ -21,8 +21,9 @@ class Run:
         self.members = members
         self.grace = 10
         first = minute_of("2024-03-31T00:00Z")
-        self.jobs = [Entry("job 0", Zone(timezone.utc), ["0,20,40", "*", "*", "*", "*"], "", "")]
-        self.jobs[0].prepare(first, first + 60)
+        job = Entry("job 0", Zone(timezone.utc), ["0,20,40", "*", "*", "*", "*"], "", "")
+        job.prepare(first, first + 60)
+        self.versions = [Version(first, [job])]
 
 
 class ScenarioWords(Words):
@@ -70,11 +71,11 @@ def packets_of(text):
             yield kinds[kind](ballot_of(words[0]), int(words[1]), *rest)
 
 
-def is_within(packet, jobs):
+def is_within(packet, versions):
     """Whether a packet is within the bounds."""
-    rows = getattr(packet, "rows", fresh_rows(jobs))
+    rows = getattr(packet, "rows", fresh_rows(versions))
     slots = getattr(packet, "ballot", 0) // 8 < ROUNDS and getattr(packet, "slot", 0) < SLOTS
-    return slots and rows_stand(rows, jobs) and all(count < COUNTS for row in rows for count in (row.launched, row.voided))
+    return slots and rows_stand(rows, versions) and all(count < COUNTS for row in rows for count in (row.launched, row.voided))
 
 
 class Scenario:
@@ -127,7 +128,7 @@ class Scenario:
         """The replica whose step it is, and the step; no step for bytes that are no letter."""
         if word == "deliver":
             sender, who, packets = self.letters[int(rest)]
-            within = all(is_within(packet, self.replicas[who].run.jobs) for packet in packets)
+            within = all(is_within(packet, self.replicas[who].run.versions) for packet in packets)
             return who, None if int(rest) in self.faults else self.replicas[who].hear(sender, packets if within else [])
         who, *words = rest.split(" ")
         replica = self.replicas[int(who)]

@@ -5,7 +5,7 @@ from datetime import timezone
 from .disk import KEPT, Arm, Disk
 from .files import BODY, GATED, SHUT, Areas, kept_by, may_follow, record_of
 from .instants import Zone, minute_of, stamp_of
-from .jobs import Entry
+from .jobs import Entry, Version
 from .launches import NOOP, End, Row, Start, Table, rows_stand
 from .laws import Broken
 from .letters import fault_of, letter_bytes, packets_in
@@ -34,9 +34,10 @@ class Run:
     def __init__(self, members, jobs):
         self.members = members
         self.grace = 10
-        self.jobs = [Entry(f"job {job}", Zone(timezone.utc), ["0,20,40", "*", "*", "*", "*"], "", "") for job in range(jobs)]
-        for job in self.jobs:
+        told = [Entry(f"job {job}", Zone(timezone.utc), ["0,20,40", "*", "*", "*", "*"], "", "") for job in range(jobs)]
+        for job in told:
             job.prepare(FIRST, LAST + 1)
+        self.versions = [Version(FIRST, told)]
 
 
 class Stopped(Exception):
@@ -46,8 +47,8 @@ class Stopped(Exception):
 class HandDisk(Areas):
     """A disk each of whose calls may be the one within which it stops. What it keeps is told by its bytes, and by arithmetic too."""
 
-    def __init__(self, me, jobs):
-        super().__init__(me, jobs)
+    def __init__(self, me, versions):
+        super().__init__(me, versions)
         self.arm = None
         self.image = None
         self.told = Disk()
@@ -84,7 +85,7 @@ class HandDisk(Areas):
         if file.content[GATED * len(bodies) :][:1] != SHUT:
             self.call(file.write, GATED * len(bodies), SHUT)
             self.call(file.sync)
-        return len(bodies), kept_by([BODY.unpack(one) for one in bodies], self.jobs)
+        return len(bodies), kept_by([BODY.unpack(one) for one in bodies], self.versions)
 
     def save(self, kept, count, change):
         """Saves a change. Whether it does so, and by arithmetic what a stop within leaves, has to fit."""
@@ -104,10 +105,10 @@ class HandDisk(Areas):
 
     def left_kept(self):
         """What the files stand for that the stop leaves."""
-        other = Areas(self.me, self.jobs)
+        other = Areas(self.me, self.versions)
         other.chooser, other.areas = self.chooser, self.areas
         other.leave(self.image)
-        return kept_by([BODY.unpack(one) for one in other.bodies()], self.jobs)
+        return kept_by([BODY.unpack(one) for one in other.bodies()], self.versions)
 
     @staticmethod
     def check(holds, law):
@@ -173,7 +174,7 @@ class Hand:
     def __init__(self, members, me, jobs):
         self.me = me
         self.run = Run(members, jobs)
-        self.disk = HandDisk(me, self.run.jobs)
+        self.disk = HandDisk(me, self.run.versions)
         self.leave_disk()
 
     def leave_disk(self):
@@ -233,7 +234,7 @@ class Hand:
 
     def may_save(self, change):
         if change and change[0] == "base":
-            return change[1] > self.kept.base and rows_stand(change[2], self.run.jobs)
+            return change[1] > self.kept.base and rows_stand(change[2], self.run.versions)
         return change and may_follow(self.kept, change)
 
     def play_save(self, rest):
@@ -297,7 +298,7 @@ class Hand:
         if fault and self.is_small():
             return ["fault Letter({} {{ packet: {} }})".format(*fault)]
         sender, packets = (None, []) if fault else packets_in(content)
-        within = all(is_within(packet, self.run.jobs) for packet in packets)
+        within = all(is_within(packet, self.run.versions) for packet in packets)
         return self.step(lambda replica: replica.hear(sender, packets if within else []))
 
     def play_reopen(self, _):

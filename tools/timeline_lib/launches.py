@@ -1,7 +1,7 @@
 """The way of each launch: how its start and its end were proposed, voted for and decided, and how the scheduler was called."""
 from collections import defaultdict
 
-from small_world.launches import Start
+from small_world.launches import Start, Table
 from small_world.replica import Accept, Accepted, Known, Promise
 from small_world.words import ballot_words
 
@@ -9,8 +9,8 @@ from .words import call_words
 
 
 def launch_of(entry):
-    """The launch of an entry of the log; none where it does nothing."""
-    return (entry.job, entry.at) if entry is not None else None
+    """The launch of an entry of the log; none where it does nothing, or adopts a version."""
+    return None if entry is None or isinstance(entry, Table) else (entry.job, entry.at)
 
 
 class Launches:
@@ -110,7 +110,9 @@ def place_of(slot, ballot, entry):
 
 
 def what(entry):
-    """What an entry says of its launch."""
+    """What an entry says of its launch, or which version it adopts."""
     if entry is None:
         return "nothing"
+    if isinstance(entry, Table):
+        return f"version {entry.version}"
     return "its start" if isinstance(entry, Start) else f"its end as a {entry.kind}"

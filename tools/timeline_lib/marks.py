@@ -1,7 +1,7 @@
 """The marks of a picture, each with what it says, whose it is and of which jobs and launches it speaks."""
 from typing import NamedTuple, Optional
 
-from small_world.launches import LAUNCH
+from small_world.launches import LAUNCH, Table
 
 from .launches import launch_of
 from .layout import COLUMN, TRACK
@@ -52,10 +52,12 @@ class Marks:
         return [(number, self.world.turns[number]) for number in range(self.layout.first, self.layout.until)]
 
     def of_entries(self, entries):
-        """The jobs and the launches of entries, as a mark has them."""
+        """The jobs and the launches of entries, as a mark has them. A version that is adopted is about each job."""
+        entries = list(entries)
         names = {launch_of(entry) for entry in entries} - {None}
         launches = tuple(sorted(self.launches.number(name) for name in names))
-        return {"jobs": frozenset(job for job, _ in names), "launches": launches}
+        has_version = any(isinstance(entry, Table) for entry in entries)
+        return {"jobs": None if has_version else frozenset(job for job, _ in names), "launches": launches}
 
     # What stands behind the tracks.
 

@@ -1,6 +1,5 @@
 """What marks of a picture say."""
 from small_world.instants import DAY, date_of, stamp_of
-from small_world.jobs import Entry
 from small_world.launches import VOID
 from small_world.words import Words, ballot_words
 
@@ -83,7 +82,7 @@ def call_words(run, number, turn, is_held=False):
 def why_void(run, call):
     """Why a launch is given up, by the clock of who calls."""
     job, read = run.jobs[call.job], f"its clock reads {stamp_of(call.now)}"
-    if not isinstance(job, Entry):
+    if job.by_period:
         return f"{read}, and the launch's date is over"
     grace = f"the grace of {run.grace:,} minute{'' if run.grace == 1 else 's'} ended at {stamp_of(call.at + run.grace)}"
     return f"{read}, and {grace if run.grace else 'there is no grace'}"
@@ -92,7 +91,7 @@ def why_void(run, call):
 def launch_label(run, call):
     """A launch's name, shortly: its job, and when it is due in UTC. The day stands there where the window has several."""
     job = run.jobs[call.job]
-    if not isinstance(job, Entry):
+    if job.by_period:
         return f"{job.name} {date_of(call.at):%m-%d}"
     is_long = (run.end - 1) // DAY > run.first // DAY
     return f"{job.name} {stamp_of(call.at)[5 if is_long else 11 : 16].replace('T', ' ')}"
