@@ -116,6 +116,7 @@ impl Replica {
     /// # Errors
     ///
     /// Bytes that are no letter, or want of memory, where they are one. The replica stays as it is also then.
+    #[inline(always)]
     pub fn plan(&mut self, table: &JobTable, input: Input<'_>) -> Result<Planned, StepFault>
         requires of_table { IsOfTable table.now self.old }
         requires small { IsSmall self.old.state self.old.machine.rows }

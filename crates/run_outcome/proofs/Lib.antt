@@ -34,7 +34,7 @@
 -- - The walk after a script is a walk from what the script has left (`ScriptLemmas`: `walks_behind`, `script_ends`).
 --
 -- A due instant, by the versions in force then, that no clock of the script has passed is called at it:
--- - The walk past it is one to it, which goes on; behind that each clock reads a later instant (`AtOnceLemmas`:
+-- - The walk past it is one to it, which goes on; behind that each clock reads a later instant (`StopLemmas`:
 --   `walk_stops`, `walks_after`).
 -- - So the book ends quietly there, and the log that it has by then is settled at the instant (`AtOnceLemmas`: `quiet`,
 --   `settled`).
@@ -96,6 +96,7 @@ pub mod SomeTurns
 pub mod SomeWalk
 pub mod SomeWhole
 pub mod SpanLemmas
+pub mod StopLemmas
 pub mod Unscripted
 pub mod WalkLemmas
 pub mod WalkWhole
