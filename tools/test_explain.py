@@ -14,6 +14,7 @@ from script_lib.command import explained, is_run_file, plain_text, run_faults
 from script_lib.run_lines import lines_of
 from small_world.made import break_run, script_run
 from small_world.manual import examples
+from small_world.versions_made import version_run
 
 ROOT = os.path.dirname(os.path.dirname(os.path.abspath(__file__)))
 TOOL = os.path.join(ROOT, "tools", "explain")
@@ -137,6 +138,17 @@ class Explain(unittest.TestCase):
             self.assertEqual(faults_in(text), [(line, 0, told, cause)])
         self.assertEqual(faults_in(changed("UTC 2", "UTC 1"))[0][:2], (FIRST - 2, 0))
 
+    def test_versions(self):
+        """The lines of versions are passed over, with their tables, in which a line `script` or `version 2` is one of the table."""
+        table = ["crontab bob UTC 2", "script", "version 2"]
+        lines = ["version 1 2024-03-31T00:30Z", *table, "version 2 2024-03-31T00:30Z", "zone A fixed +01:00"]
+        text = changed("backup\n", "\n".join(["backup", *lines, ""]))
+        self.assertEqual((faults_in(text), plain_text(text)), ([], text))
+        told = "replicas are numbered from 0 on, and R is 0 to 2"
+        self.assertEqual(faults_in(text.replace("end\n", "stop 3\nend\n")), [(FIRST + len(lines), 6, told, 30)])
+        told = "here a zone, a table or a version begins, or `script` stands; does the table before have the right COUNT?"
+        self.assertEqual(faults_in(text.replace("version 1", "versions 1")), [(FIRST - 1, 0, told, 31)])
+
     def test_bytes(self):
         self.assertEqual(faults_in(with_script("heal\udcff")), [(FIRST, 0, "the line isn't UTF-8", 15)])
         self.assertEqual(faults_in(with_script("heal\0")), [(FIRST, 0, "the line has a zero byte", 15)])
@@ -152,7 +164,7 @@ class Explain(unittest.TestCase):
                 self.assertEqual([(fault[0], fault[3]) for fault in faults_in("\n".join([*lines, ""]))[:1]], wanted, cell)
 
     def test_scripts_that_the_program_takes(self):
-        texts = [example.text for example in examples()] + [made(seed) for made in (script_run, break_run) for seed in range(60)]
+        texts = [example.text for example in examples()] + [made(seed) for made in (script_run, break_run, version_run) for seed in range(60)]
         folder = os.path.join(ROOT, "examples")
         for name in sorted(os.listdir(folder)):
             if "." not in name and f"{name}.stderr" not in os.listdir(folder):

@@ -42,7 +42,7 @@ FORMS = {
 
 def answer_of(program, word, made, first):
     """What the program answers to `--list`, by the small world."""
-    lines = [line for job in RunFile(made.data.decode()).jobs for line in job.listed()]
+    lines = RunFile(made.data.decode()).listed()
     if sum(line.startswith("due ") for line in lines) > MOST:
         raise Stop("run_file: the program refuses the run file: too many due instants (cause 24)")
     return lines

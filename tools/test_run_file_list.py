@@ -156,7 +156,7 @@ end
         self.write("var/spool/cron/bob", "0 0 1 1 * x\n")
         self.program("", "cron_cluster: line 0: cause 24 at 0\n", 2)
         status, lines, notes = self.answered("--list", "--until", "2024-03-30T00:01Z")
-        message = "run_file: the program refuses the run file: more than 20,000 due instants (cause 24)"
+        message = "run_file: the program refuses the run file: more than 20,000 due instants, over all versions (cause 24)"
         self.assertEqual((status, lines, notes), (1, [], [message]))
 
     def test_halves(self):

@@ -79,7 +79,7 @@ def program_page():
 def tables_page():
     first = ["What differs from cronie, Debian's cron and anacron", "A table in a run file"]
     lines = ["Lines", "Fields", "The day rule", "Nicknames", "Hashed fields", "Variables", "Commands", "System tables"]
-    last = ["Zones and clock changes", "Anacrontabs"]
+    last = ["Zones and clock changes", "Anacrontabs", "Versions"]
     heads = [
         ("DESCRIPTION", [(intro, TABLES), (sections, TABLES, *first, *lines, *last)]),
         ("FILES", [(part, MACHINE, "Which tables are read")]),

@@ -23,19 +23,21 @@ CAUSES = {
     19: "in an anacrontab, a `START_HOURS_RANGE` that isn't two hours from 0 to 24 that rise",
     20: "in an anacrontab, a `RANDOM_DELAY` that isn't 0 to 9,999",
     21: "a zone that the run doesn't have",
-    22: "a job whose name is there already",
-    23: "more than 1,000 jobs",
-    24: "more than 20,000 due instants",
+    22: "a job whose name is there already in the same version",
+    23: "more than 1,000 jobs, over all versions",
+    24: "more than 20,000 due instants, over all versions",
     25: "not `cronrun 1`",
     26: "not `replicas N` with N from 1 to 7",
     27: "not `window STAMP STAMP` within the limits",
     28: "not `grace G` within the limits",
     29: "`crontab`, `system` or `anacrontab` with another form, or with more lines than there are",
     30: "in the script, neither a command nor `end`, or a command too many; or a line behind `end`",
-    31: "before the script, neither a zone nor a table nor `script`; or the file ends before `end`",
+    31: "before the script, neither a zone, a table, a version nor `script`; or the file ends before `end`",
     32: "a zone whose rule or file `jiff` refuses",
     33: "more than 1,048,576 bytes",
     34: "`zone` with another form; or the name `UTC`, a name that is there, or a 33rd zone",
+    36: "`version` with another form; or a number that isn't the next one from 1 or is above 7, or a stamp that is outside the window "
+    "or before that of the version above",
 }
 # Those of a single line of a table, which a check tells. The script tells the others itself.
 OF_LINES = {*range(1, 21)} - {15}

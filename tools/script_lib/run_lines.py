@@ -13,6 +13,8 @@ Fault = namedtuple("Fault", "line column text cause")
 # The end is none where the file ends before.
 Script = namedtuple("Script", "frame first lines end")
 TABLES = ("crontab", "system", "anacrontab")
+# What else stands before the script, each in a line of its own.
+OTHERS = ("zone", "version")
 HEAD = [
     (25, "`cronrun 1`", re.compile("cronrun 1")),
     (26, "`replicas N`, with N from 1 to 7", re.compile("replicas ([1-7])")),
@@ -45,13 +47,14 @@ def frame_of(lines):
 
 
 def begin_of(lines):
-    """Where the line `script` stands behind tables and zones: its place, or the place of the first line that is none of these."""
+    """Where the line `script` stands behind tables, zones and versions: its place, or the place of the first line that is none of
+    these."""
     place = 4
     while place < len(lines) and lines[place] != "script":
         words = lines[place].split(" ")
         if words[0] in TABLES and len(words) == 4 and words[3].isdigit():
             place += int(words[3])
-        elif words[0] != "zone":
+        elif words[0] not in OTHERS:
             break
         place += 1
     return place
@@ -64,7 +67,7 @@ def script_of(lines):
         taken = "a table takes `script` for a line of its own: mend its COUNT"
         return None, [Fault(len(lines) + 1, 0, taken if "script" in lines else "the file ends before `script`", 31)]
     if lines[begin] != "script":
-        told = "here a zone or a table begins, or `script` stands; does the table before have the right COUNT?"
+        told = "here a zone, a table or a version begins, or `script` stands; does the table before have the right COUNT?"
         return None, [Fault(begin + 1, 0, told, 31)]
     first = begin + 1
     end = lines.index("end", first) if "end" in lines[first:] else None

@@ -50,9 +50,9 @@ class Job:
         when = date_of(at) if self.by_period else stamp_of(at).replace("-", "").replace(":", "")
         return f"{self.name}@{when}"
 
-    def listed(self):
-        """The lines of a due list that are of it."""
-        return [f"job {self.name} version 0 count {len(self.dues)}"]
+    def listed(self, version=0):
+        """The lines of a due list that are of it, as the version of that number has it."""
+        return [f"job {self.name} version {version} count {len(self.dues)}"]
 
 
 class Entry(Job):
@@ -98,9 +98,9 @@ class Entry(Job):
         place = max(self.behind(row.cursor), self.behind(since))
         return self.dues[place] if place < len(self.dues) and self.dues[place] <= now else None
 
-    def listed(self):
+    def listed(self, version=0):
         lines = [f"due {self.title(minute)} {stamp_of(self.zone.local(minute))[:-1]}" for minute in self.dues]
-        return [*super().listed(), *lines]
+        return [*super().listed(version), *lines]
 
 
 class Never(Job):
@@ -138,8 +138,8 @@ class Periodic(Job):
     def is_in_time(self, at, now, grace):
         return at == self.zone.local(now) // DAY
 
-    def listed(self):
-        return [f"anacron {self.name} version 0"]
+    def listed(self, version=0):
+        return [f"anacron {self.name} version {version}"]
 
 
 def entry_of(name, zone, line, kind, owner):

@@ -8,6 +8,7 @@ use Rattle.launch_safety.specs.Fitting.{held_in}
 use Rattle.run_text.specs.Run.{Run}
 use Rattle.run_text.specs.declared.refusal.Refusal.{Refusal}
 use Rattle.run_text.proofs.SoundLemmas.{sound_run}
+use Rattle.job_table.proofs.FieldLemmas.{table_window}
 use Rattle.run_input.specs.Input.{IsRunWithTable}
 use Rattle.run_input.proofs.VerdictLemmas.{one_refused_run_file, one_taken, taken_or_refused}
 use Rattle.world_law.specs.Book.{BookState, StandsBehind}
@@ -98,7 +99,7 @@ one_finding input a b most x y =
     let journal : x.journal ≡ y.journal =
     one_text x.journal_part x.journal y.journal x.journal_read (subst (λ (l : List ℕ). IsReadText l y.journal) (sym parts.2) y.journal_read) in
     let sound = sound_run x.run_part x.run x.taken.says in
-    let limits : IsWithinLimits x.table.window = subst (λ (t : Table). IsWithinLimits t.window) (sym x.taken.table_is.is) sound.limits in
+    let limits : IsWithinLimits x.table.window = subst IsWithinLimits (sym (table_window x.run x.table x.taken.table_is)) sound.limits in
     let within = (parts_within input x.run_part x.report_part x.journal_part 67_108_864 x.parts most).1 in
     let short = text_is_short x.journal_part x.journal x.journal_read in
     one_found x.run x.table x.report x.journal sound.replicas.few limits (omega (arith, within, short)) a b x.found

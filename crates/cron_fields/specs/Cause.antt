@@ -1,7 +1,7 @@
 -- The numbers of the causes for which an input is refused. Source: docs/RUN_FILE.md.
 use Rattle.std.specs.Prelude.{ℕ}
 use Rattle.cron_fields.specs.declared.cause.Cause.{Cause}
-use Rattle.cron_fields.specs.declared.cause.Cause.TheVariants.{Empty, BadNumber, OutOfRange, UnknownName, BadOrder, ZeroStep, StepAfterAtom, Tilde, NoAtom, TooFewFields, NoCommand, BadUser, BadNickname, LongCommand, NotText, BadPeriod, BadDelay, BadIdentifier, BadHours, BadRandomDelay, UnknownZone, DuplicateJob, TooManyJobs, TooManyDue, BadHeader, BadReplicas, BadWindow, BadGrace, BadSection, BadScript, MissingLine, BadZone, TooLarge, BadZoneLine, NoFormYet}
+use Rattle.cron_fields.specs.declared.cause.Cause.TheVariants.{Empty, BadNumber, OutOfRange, UnknownName, BadOrder, ZeroStep, StepAfterAtom, Tilde, NoAtom, TooFewFields, NoCommand, BadUser, BadNickname, LongCommand, NotText, BadPeriod, BadDelay, BadIdentifier, BadHours, BadRandomDelay, UnknownZone, DuplicateJob, TooManyJobs, TooManyDue, BadHeader, BadReplicas, BadWindow, BadGrace, BadSection, BadScript, MissingLine, BadZone, TooLarge, BadZoneLine, NoFormYet, BadVersion}
 
 -- the number of a cause
 abbrev pub cause_number : Cause → ℕ
@@ -40,3 +40,4 @@ cause_number BadZone = 32
 cause_number TooLarge = 33
 cause_number BadZoneLine = 34
 cause_number NoFormYet = 35
+cause_number BadVersion = 36

@@ -72,13 +72,15 @@ pub enum Cause {
     BadZoneLine = 34,
     /// What the line says has no form yet.
     NoFormYet = 35,
+    /// The line begins no version that may follow.
+    BadVersion = 36,
 }
 
 impl Cause {
     ghost use Rattle.std.specs.Prelude.{◌≡◌};
     ghost use Rattle.cron_fields.specs.Cause.{cause_number};
 
-    /// The number of the cause, from 1 to 35.
+    /// The number of the cause, from 1 to 36.
     pub fn number(self) -> u8
         ensures { result ≡ cause_number self }
     {

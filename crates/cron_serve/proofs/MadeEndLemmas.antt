@@ -1,5 +1,5 @@
 -- What the summary of a made run tells of its book.
-use Rattle.std.proofs.Common.{◌≡◌, ◌⊎◌, inl, inr, ℕ, List, [], ℤ, ap, sym, subst, arith, pos, ◌+ℤ◌, ◌≤ℤ◌}
+use Rattle.std.proofs.Common.{◌≡◌, ◌⊎◌, inl, inr, ℕ, List, [], ℤ, refl, sym, subst, arith, pos, ◌+ℤ◌, ◌≤ℤ◌}
 use Rattle.std.proofs.lemmas.Int.{ints}
 use Rattle.cron_io.specs.Views.{SourceView, SinkView}
 use Rattle.cron_io.specs.Writing.{HasGained}
@@ -8,6 +8,7 @@ use Rattle.disk_model.specs.declared.mem_disk.MemDisk.{MemDisk}
 use Rattle.replica_node.specs.declared.node.Node.{Node}
 use Rattle.world_law.specs.Book.{BookState}
 use Rattle.job_table.specs.Table.{IsTableOf}
+use Rattle.job_table.proofs.FieldLemmas.{table_grace, later_of_one, table_window}
 use Rattle.journal_text.specs.Summary.{IsBookSummary}
 use Rattle.launch_machine.proofs.ExistLemmas.{AdoptionsOf-same}
 use Rattle.launch_safety.proofs.Whole.{no_adoptions}
@@ -34,7 +35,7 @@ made_is seed table book nodes run = same_run (made_text seed) run.run (made_run 
 made_adopts_none : (seed : ℕ) (table : Table) (book : BookState) (nodes : List (Node MemDisk)) (run : IsRunOf (made_text seed) table book nodes) → IsTableOf (made_run seed) table
     → run.whole.adoptions ≡ []
 made_adopts_none seed table book nodes run is =
-    let one : table.later ≡ [] = ap (λ (t : Table). t.later) is.is in
+    let one : table.later ≡ [] = later_of_one (made_run seed) table is refl in
     let none = no_adoptions run.run.members table run.rows run.whole.log (few_members (made_text seed) run.run table run.taken) run.whole.legal run.whole.is_log one in
     AdoptionsOf-same table run.whole.log run.whole.adoptions [] run.whole.adopted none
 
@@ -42,7 +43,7 @@ made_adopts_none seed table book nodes run is =
 made_grace : (seed : ℕ) (table : Table) → IsTableOf (made_run seed) table → IsGraceLong table
 made_grace seed table is =
     let long : made_window.until.0 ≤ℤ (made_window.from.0 +ℤ pos 14_400) = omega (arith, ints) in
-    subst IsGraceLong (sym is.is) long
+    rw (table_window (made_run seed) table is, table_grace (made_run seed) table is) long
 
 module _ (seed : ℕ) (source source' : SourceView) (book : BookState) (nodes : List (Node MemDisk)) where
   run_of_text : (text : List ℕ) (is : IsTextOfInput (Summary seed) source source' book nodes text) → IsRunOf (made_text seed) is.is.table book nodes

@@ -1,5 +1,5 @@
 -- From a world that has played a run to what the run leaves.
-use Rattle.std.proofs.Common.{ℕ, ◌+◌, ◌<◌, ◌≤◌, List, length, All, sym, ap, subst, arith}
+use Rattle.std.proofs.Common.{ℕ, ◌+◌, ◌<◌, ◌≤◌, List, length, All, sym, subst, arith}
 use Rattle.disk_model.specs.declared.mem_disk.MemDisk.{MemDisk}
 use Rattle.crontab_text.specs.Lines.{lines_of}
 use Rattle.due_set.specs.Table.{Table}
@@ -15,6 +15,7 @@ use Rattle.world_rounds.specs.declared.world.World.{World}
 use Rattle.run_outcome.proofs.WholeLemmas.{script_whole}
 use Rattle.script_play.specs.Play.{AreMemNodesOf, HasRun, IsPlayable}
 use Rattle.script_play.proofs.Taken.{script_taken}
+use Rattle.job_table.proofs.FieldLemmas.{table_window}
 use Rattle.run_input.specs.Input.{IsRunWithTable}
 use Rattle.cron_serve.specs.Serve.{IsRunOf}
 
@@ -31,7 +32,7 @@ module _ (bytes : List ℕ) (run : Run) (table : Table) (taken : IsRunWithTable 
 
   pub playable : All (IsPlayable table.window run.members) run.commands
   playable =
-      subst (λ window. All (IsPlayable window run.members) run.commands) (sym (ap (λ (t : Table). t.window) taken.table_is.is)) (script_taken _ run sound)
+      subst (λ window. All (IsPlayable window run.members) run.commands) (sym (table_window run table taken.table_is)) (script_taken _ run sound)
 
   -- what the world leaves is the run's
   pub left_by_world : (world : World MemDisk) (nodes : List (Node MemDisk)) → (has : HasRun table run.members run.commands world)

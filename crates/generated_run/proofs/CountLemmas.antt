@@ -19,7 +19,7 @@ use Rattle.due_set.specs.Table.{Job, Table, IsJobDue, IsShare, utc_over}
 use Rattle.due_set.specs.declared.job.JobKind.{JobKind}
 use Rattle.due_set.specs.declared.job.JobKind.TheVariants.{Crontab}
 use Rattle.due_set.proofs.Rising.{Contains-head, Contains-tail}
-use Rattle.job_table.specs.Table.{IsDueCount}
+use Rattle.job_table.specs.Table.{IsVersionCount}
 use Rattle.generated_run.specs.Made.{made_window}
 use Rattle.generated_run.proofs.EntryLemmas.{number_set, hourly_fields, daily_fields}
 
@@ -169,7 +169,7 @@ sum_at_most table first (job ∷ jobs) (share ∷ shares) each =
     omega (arith, here, others, sum_by-cons (λ (n : ℕ). n) share shares, sum_by-cons (λ (j : Job). most_due j.kind) job jobs)
 
 -- how many due instants a table of such jobs has at most
-pub count_at_most : (jobs : List Job) (count : ℕ) → AllByRecursion IsMadeJob jobs → IsDueCount (table_with jobs) count → count ≤ sum_by (λ (job : Job). most_due job.kind) jobs
+pub count_at_most : (jobs : List Job) (count : ℕ) → AllByRecursion IsMadeJob jobs → IsVersionCount (table_with jobs) 0 count → count ≤ sum_by (λ (job : Job). most_due job.kind) jobs
 count_at_most jobs count made counted =
     let most : sum counted.shares ≤ sum_by (λ (job : Job). most_due job.kind) jobs = sum_at_most (table_with jobs) 0 jobs counted.shares (λ number share is. each number share (counted.each number share is)) in
     omega (arith, most, counted.total)

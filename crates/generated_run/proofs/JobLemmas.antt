@@ -20,11 +20,12 @@ use Rattle.due_set.specs.declared.job.JobKind.TheVariants.{Crontab}
 use Rattle.zone_minutes.proofs.ZoneLemmas.{IsReadable-fixed}
 use Rattle.job_table.specs.Collect.{Collected}
 use Rattle.job_table.specs.Jobs.{HasJob, named_job}
-use Rattle.job_table.specs.Marks.{Mark, MarksZone, MarksJob, crontab_job_name, marks_from}
-use Rattle.job_table.specs.Table.{IsTableOf, jobs_of, table_of}
-use Rattle.job_table.proofs.DueCountLemmas.{due_count}
+use Rattle.job_table.specs.Marks.{Mark, AreMarks, MarksZone, MarksJob, crontab_job_name, marks_from}
+use Rattle.job_table.specs.Table.{IsTableOf, jobs_of}
+use Rattle.job_table.proofs.DueCountLemmas.{version_due_count}
 use Rattle.job_table.proofs.JobLemmas.{distinct_push}
 use Rattle.job_table.proofs.MarkLemmas.{adds_zone, adds_job}
+use Rattle.job_table.proofs.OneVersionLemmas.{is_table_of_one, table_of_jobs}
 use Rattle.generated_run.specs.Draws.{draw}
 use Rattle.generated_run.specs.Made.{made_window, hourly_line, daily_line, hourly_lines, daily_lines, table_lines, made_run}
 use Rattle.generated_run.proofs.CountLemmas.{IsMadeJob, hourly, daily, most_due, table_with, count_at_most}
@@ -191,20 +192,12 @@ table_exists seed =
       kinds = kinds_made 6 1 entries;
       versions = no_later (table_with jobs);
     } in
-    let (count, counted) = due_count (table_with jobs) sound in
-    let few = count_at_most jobs count (made_jobs 6 1 entries fields) counted in (
-      table_of (made_run seed) marks,
-      record {
-        readable = All-nil _;
-        marks = marks;
-        are = (marks, [], record { lines = marks_of 6 1 entries; are = (map said entries, table_says seed, refl); all = refl }, refl, sym (append-nil marks));
-        sound = known.collected.sound;
-        few_jobs = omega (arith, many);
-        is = refl;
-        count = count;
-        counted = counted;
-        few_due = omega (arith, few, most, hourly_most, daily_most);
-      },
+    let (count, counted) = version_due_count (table_with jobs) sound 0 (omega arith) in
+    let few = count_at_most jobs count (made_jobs 6 1 entries fields) counted in
+    let are : AreMarks [] (made_run seed).sections marks =
+    (marks, [], record { lines = marks_of 6 1 entries; are = (map said entries, table_says seed, refl); all = refl }, refl, sym (append-nil marks)) in (
+      table_of_jobs (made_run seed) jobs,
+      is_table_of_one (made_run seed) marks count refl (All-nil _) are known.collected.sound (omega (arith, many)) counted (omega (arith, few, most, hourly_most, daily_most)),
     )
   where
     kinds_made : (line number : ℕ) (others : List Entry) → All (λ (job : Job). IsKindOfName job.name job.kind) (jobs_of (marks_of line number others))

@@ -332,14 +332,14 @@ made_reads seed = (
         (14_400, record { is = refl; short = omega arith }, refl),
         (
           inside (run_with 3 made_window 14_400) (table_at 5 (codes "make") (codes "UTC") []) 200,
-          inr (inr (record {
+          inr (inr (inl (record {
             kind = User;
             label = codes "make";
             zone = codes "UTC";
             count = 200;
             opens = record { is = record { is = refl; is_label = make_label; is_zone = utc_name; short = omega arith }; whole = omega (arith, table_length seed, length-append (table_lines seed) behind) };
             next_is = refl;
-          })),
+          }))),
           subst (λ n. ReadsFrom Judged 6 (inside (run_with 3 made_window 14_400) (table_at 5 (codes "make") (codes "UTC") []) n) (table_lines seed ++ behind) (made_run seed)) (table_length seed)
               (table_reads 6 5 (run_with 3 made_window 14_400) (codes "make") (codes "UTC") [] (table_lines seed) behind (made_run seed) (table_is_said seed)
               (Script (begun_run seed), inl (refl, refl), script_reads (6 + length (table_lines seed) + 1) (begun_run seed) (made_script seed) (said (made_script seed) (script_fits seed)) (script_within seed))),

@@ -77,6 +77,7 @@ made_run seed = record {
   grace = 14_400;
   zones = [];
   sections = record { line = 5; kind = User; label = codes "make"; zone = codes "UTC"; lines = table_lines seed } ∷ [];
+  versions = [];
   commands = made_script seed;
 }
 

@@ -59,7 +59,7 @@ none_named (job ∷ jobs) name none = All-cons (λ j. j.name ≢ name) job jobs 
 pub distinct_push : (jobs : List Job) (job : Job) → AreNamesDistinct jobs → (HasJob job.name jobs → ⊥) → AreNamesDistinct (jobs ++ job ∷ [])
 distinct_push jobs job distinct none = all_pairs_push (λ a b. a.name ≢ b.name) jobs job distinct (none_named jobs job.name none)
 
-same_job : (a b : Job) → a.name ≡ b.name → a.zone ≡ b.zone → a.kind ≡ b.kind → a ≡ b
+pub same_job : (a b : Job) → a.name ≡ b.name → a.zone ≡ b.zone → a.kind ≡ b.kind → a ≡ b
 same_job a b names zones kinds = rw (names, zones, kinds) refl
 
 -- one entry more, as a job of a table

@@ -17,9 +17,11 @@ use Rattle.run_text.specs.Run.{NamedZone, Section, Run}
 use Rattle.run_text.specs.declared.table.Tables.TheVariants.{Judged}
 use Rattle.job_table.specs.Marks.{Mark, MarksZone, anacron_marks, crontab_job_name, kind_of, marks_from, AreTableMarks, AreSectionMarks, AreMarks}
 use Rattle.job_table.specs.Table.{jobs_of}
+use Rattle.job_table.specs.Versions.{sections_in}
 use Rattle.job_table.specs.Zones.{zone_number}
 use Rattle.job_table.proofs.MarkLemmas.{jobs_of-append}
 use Rattle.job_table.proofs.NameLemmas.{HasLabel, labelled_end}
+use Rattle.job_table.proofs.VersionSectionLemmas.{all_in}
 use Rattle.std.proofs.lemmas.Bool.{ne_eqb}
 
 -- ---- texts without a `/`
@@ -142,6 +144,8 @@ all_kinds zones (section ∷ sections) marks labels (first, others, here, rest, 
     subst AreKindsOfNames (sym (ap jobs_of is ∙ jobs_of-append first others))
     (kinds_both (jobs_of first) (jobs_of others) (section_kinds zones section first labels.0 here) (all_kinds zones sections others labels.1 rest))
 
--- **Each job of the marks of a run runs as its name says.**
-pub kinds_of_run : (text : List ℕ) (run : Run) (marks : List Mark) → IsRunText text run → AreMarks run.zones run.sections marks → AreKindsOfNames (jobs_of marks)
-kinds_of_run text run marks says are = all_kinds run.zones run.sections marks (labelled_end Judged 1 Nothing (lines_of text) run tt says) are
+-- **Each job of the marks of a version runs as its name says.**
+pub kinds_of_version : (text : List ℕ) (run : Run) (version : ℕ) (marks : List Mark) → IsRunText text run → AreMarks run.zones (sections_in run version) marks
+    → AreKindsOfNames (jobs_of marks)
+kinds_of_version text run version marks says are =
+    all_kinds run.zones (sections_in run version) marks (all_in HasLabel run version (labelled_end Judged 1 Nothing (lines_of text) run tt says)) are

@@ -1,7 +1,7 @@
 -- Marks that are collected one by one.
-use Rattle.std.proofs.Common.{◌≡◌, ℕ, List, [], ◌∷◌, ◌++◌, refl, ap, ◌∙◌, sym, subst, inl, inr, append_assoc}
+use Rattle.std.proofs.Common.{◌≡◌, ℕ, List, [], ◌∷◌, ◌++◌, refl, ap, ◌∙◌, sym, subst, inl, inr, arith, append_assoc}
 use Rattle.std.proofs.lemmas.List.{append-nil}
-use Rattle.due_set.specs.Table.{Job}
+use Rattle.due_set.specs.Table.{Job, AreNamesDistinct}
 use Rattle.due_set.specs.declared.job.JobKind.{JobKind}
 use Rattle.run_text.specs.declared.refusal.Refusal.{Refusal}
 use Rattle.job_table.specs.Collect.{Collected, AddsMarks, RefusesMarks}
@@ -10,6 +10,7 @@ use Rattle.job_table.specs.Marks.{Mark, MarksZone, MarksJob, BringsJob, IsMarkFa
 use Rattle.run_text.specs.Run.{NamedZone}
 use Rattle.job_table.specs.Zones.{NamesZone}
 use Rattle.job_table.specs.Table.{jobs_of, at_line, HasLineAtFault}
+use Rattle.job_table.proofs.JobLemmas.{distinct_push}
 use Rattle.cron_fields.specs.declared.cause.Cause.TheVariants.{UnknownZone, DuplicateJob}
 
 pub jobs_of-append : (xs ys : List Mark) → jobs_of (xs ++ ys) ≡ jobs_of xs ++ jobs_of ys
@@ -76,6 +77,21 @@ pub refuses_job : (zones : List NamedZone) (jobs : List Job) (at : ℕ) (name : 
     → RefusesMarks zones jobs (MarksJob at name zone kind ∷ []) refusal
 refuses_job zones jobs at name zone kind refusal has is marks others collected =
     at_fault zones marks others (MarksJob at name zone kind) at 22 refusal collected.sound (brings name marks (subst (HasJob name) collected.are has), refl, refl) is
+
+distinct_behind : (zones : List NamedZone) (before marks : List Mark) → AreNamesDistinct (jobs_of before) → AreSoundBehind zones before marks → AreNamesDistinct (jobs_of (before ++ marks))
+distinct_behind zones before [] distinct sound = subst (λ m. AreNamesDistinct (jobs_of m)) (sym (append-nil before)) distinct
+distinct_behind zones before (MarksZone line name ∷ marks) distinct sound =
+    let mark = MarksZone line name ∷ [] in
+    let same : jobs_of (before ++ mark) ≡ jobs_of before = jobs_of-append before mark ∙ append-nil (jobs_of before) in
+    subst (λ m. AreNamesDistinct (jobs_of m)) (append_assoc before mark marks) (distinct_behind zones (before ++ mark) marks (subst AreNamesDistinct (sym same) distinct) sound.1)
+distinct_behind zones before (MarksJob line name zone kind ∷ marks) distinct sound =
+    let mark = MarksJob line name zone kind ∷ [] in
+    let more = distinct_push (jobs_of before) (named_job name zone kind) distinct (λ has. sound.0 line 22 (brings name before has, refl, refl)) in
+    subst (λ m. AreNamesDistinct (jobs_of m)) (append_assoc before mark marks) (distinct_behind zones (before ++ mark) marks (subst AreNamesDistinct (sym (jobs_of-append before mark)) more) sound.1)
+
+-- jobs of marks that aren't at fault have names of their own
+pub sound_distinct : (zones : List NamedZone) (marks : List Mark) → AreSound zones marks → AreNamesDistinct (jobs_of marks)
+sound_distinct zones marks sound = distinct_behind zones [] marks (λ i j d rises within. absurd (omega arith)) sound
 
 -- one list of marks after another
 pub adds_both : (zones : List NamedZone) (old now new : List Job) (a b : List Mark) → AddsMarks zones old now a → AddsMarks zones now new b → AddsMarks zones old new (a ++ b)

@@ -1,9 +1,10 @@
 -- Each job of a run's table has one word for its name: its section's label, and a number or an identifier.
 use Rattle.std.proofs.Common.{◌≡◌, ◌≢◌, ℕ, zero, suc, ◌+◌, ◌/◌, ◌%◌, ◌<◌, ◌==◌, nat_lt, Bool, true, false, cond, List, [], ◌∷◌, ◌++◌, length, map, Option, Some, None, refl, sym, subst, ap, ◌∙◌, inl, inr, arith, decimal, codes, bytes_eq}
-use Rattle.std.specs.Prelude.{⊤}
+use Rattle.std.specs.Prelude.{⊤, flat_map}
 use Rattle.std.specs.List.{AllByRecursion}
 use Rattle.std.specs.Fmt.{digit_glyph, digits, digits_onto}
-use Rattle.std.proofs.lemmas.List.Elements.{All-nil, All-cons}
+use Rattle.std.proofs.lemmas.List.Elements.{All-nil, All-cons, All-head, All-tail, All-append}
+use Rattle.std.proofs.lemmas.List.Concat.{flat_map-cons}
 use Rattle.anacron_text.specs.Answers.{Said, AreAnswersBelow}
 use Rattle.anacron_text.specs.Job.{IsJob}
 use Rattle.anacron_text.specs.LineBody.{AnacronLineBody, BlankBody as AnaBlank, CommentBody as AnaComment, AssignBody as AnaAssign, JobBody, AnacronJob as AnaJob}
@@ -16,7 +17,7 @@ use Rattle.crontab_text.specs.Blanks.{IsBlank, IsFirstWord, LacksAny}
 use Rattle.crontab_text.specs.LineBody.{LineBody, BlankBody, CommentBody, AssignBody, EntryBody, NickBody}
 use Rattle.crontab_text.specs.Lines.{Lacks, lines_of}
 use Rattle.crontab_text.specs.declared.answer.Style.{Style}
-use Rattle.due_set.specs.Table.{Job, Table}
+use Rattle.due_set.specs.Table.{Job, Table, own_name}
 use Rattle.run_text.specs.Follow.{Above, Nothing, Version, Replicas, Times, Sections, Table as InTable, Script, End, inside, style_of, MayStandBelow}
 use Rattle.run_text.specs.Grammar.{IsLabel, IsLabelByte, IsLabelStart}
 use Rattle.run_text.specs.Reading.{ReadsFrom, IsRunText}
@@ -25,9 +26,13 @@ use Rattle.run_text.specs.declared.table.Tables.{Tables}
 use Rattle.run_text.specs.declared.table.Tables.TheVariants.{Judged}
 use Rattle.job_table.specs.Marks.{Mark, MarksZone, marks_from, anacron_marks, AreTableMarks, AreSectionMarks, AreMarks}
 use Rattle.job_table.specs.Names.{HaveWordNames, IsWordByte}
-use Rattle.job_table.specs.Table.{IsTableOf, jobs_of}
+use Rattle.job_table.specs.Table.{IsTableOf, jobs_of, names_in, table_of}
+use Rattle.job_table.specs.Versions.{job_named, jobs_under, sections_in}
 use Rattle.job_table.specs.Zones.{zone_number}
 use Rattle.job_table.proofs.MarkLemmas.{jobs_of-append}
+use Rattle.job_table.proofs.NamedJobLemmas.{all_names, named_so}
+use Rattle.job_table.proofs.VersionMarkLemmas.{AreMarksFrom, from_first}
+use Rattle.job_table.proofs.VersionSectionLemmas.{all_in}
 
 -- ---- labels
 
@@ -56,8 +61,9 @@ labelled_next tables number behind (Replicas members) next line are (window, is,
 labelled_next tables number behind (Times members window) next line are (grace, is, next_is) = subst AreLabelled (sym next_is) tt
 labelled_next tables number behind (Sections run) next line are (inl may) = subst AreLabelled (sym may.1) are
 labelled_next tables number behind (Sections run) next line are (inr (inl names)) = subst AreLabelled (sym names.next_is) are
-labelled_next tables number behind (Sections run) next line are (inr (inr start)) =
+labelled_next tables number behind (Sections run) next line are (inr (inr (inl start))) =
     subst AreLabelled (sym start.next_is) (labelled_inside run (opened number start.kind start.label start.zone) start.count are start.opens.is.is_label)
+labelled_next tables number behind (Sections run) next line are (inr (inr (inr version))) = subst AreLabelled (sym version.next_is) are
 labelled_next tables number behind (InTable run section left) next line are (may, next_is) =
     subst AreLabelled (sym next_is) (labelled_inside run (record section { lines = section.lines ++ line ∷ [] }) left are.0 are.1)
 labelled_next tables number behind (Script run) next line are (inl may) = subst AreLabelled (sym may.1) are
@@ -225,7 +231,33 @@ all_words zones (section ∷ sections) marks labels (first, others, here, rest, 
     subst HaveWordNames (sym (ap jobs_of is ∙ jobs_of-append first others))
     (words_both (jobs_of first) (jobs_of others) (section_words zones section first labels.0 here) (all_words zones sections others labels.1 rest))
 
+-- the names of jobs that have words
+words_of_names : (jobs : List Job) → HaveWordNames jobs → AllByRecursion IsWordText (map own_name jobs)
+words_of_names [] words = tt
+words_of_names (job ∷ jobs) words =
+    (All-head (λ (j : Job). IsWordText j.name) job jobs words, words_of_names jobs (All-tail (λ (j : Job). IsWordText j.name) job jobs words))
+
+words_under : (names : List (List ℕ)) (jobs : List Job) → AllByRecursion IsWordText names → HaveWordNames (jobs_under names jobs)
+words_under [] jobs words = words_none
+words_under (name ∷ names) jobs words =
+    words_with (job_named name jobs) (jobs_under names jobs) (subst IsWordText (sym (named_so name jobs)) words.0) (words_under names jobs words.1)
+
+-- the jobs of all versions
+version_words : (run : Run) (version : ℕ) (marks : List (List Mark)) → AllByRecursion HasLabel run.sections → AreMarksFrom run version marks → HaveWordNames (flat_map jobs_of marks)
+version_words run version [] labels are = words_none
+version_words run version (here ∷ marks) labels are =
+    subst HaveWordNames (sym (flat_map-cons jobs_of here marks))
+    (All-append (λ (j : Job). IsWordText j.name) (jobs_of here) (flat_map jobs_of marks)
+    (all_words run.zones (sections_in run version) here (all_in HasLabel run version labels) are.0) (version_words run (suc version) marks labels are.1))
+
+table_words_of : (run : Run) (marks : List (List Mark)) → AllByRecursion IsWordText (names_in marks) → HaveWordNames (table_of run marks).jobs
+table_words_of run [] words = words_none
+table_words_of run (here ∷ marks) words = words_under (names_in (here ∷ marks)) (jobs_of here) words
+
 -- **Each job of a run's table has one word for its name.**
 pub words_of_run : (text : List ℕ) (run : Run) (table : Table) → IsRunText text run → IsTableOf run table → HaveWordNames table.jobs
 words_of_run text run table says is =
-    subst (λ (t : Table). HaveWordNames t.jobs) (sym is.is) (all_words run.zones run.sections is.marks (labelled_end Judged 1 Nothing (lines_of text) run tt says) is.are)
+    let labels = labelled_end Judged 1 Nothing (lines_of text) run tt says in
+    let all = version_words run 0 is.marks labels (from_first run is.marks is.are) in
+    subst (λ (t : Table). HaveWordNames t.jobs) (sym is.is)
+    (table_words_of run is.marks (all_names IsWordText [] (map own_name (flat_map jobs_of is.marks)) tt (words_of_names (flat_map jobs_of is.marks) all)))

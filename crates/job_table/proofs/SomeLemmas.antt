@@ -1,5 +1,5 @@
 -- Each run of a text has a table or a refusal.
-use Rattle.std.proofs.Common.{◌≡◌, ◌⊎◌, inl, inr, ℕ, ◌+◌, ◌<◌, ◌≤◌, Bool, true, false, List, [], ◌∷◌, ◌++◌, length, map, refl, ap, ◌∙◌, sym, subst, arith, append_assoc, codes, pos, true≢false}
+use Rattle.std.proofs.Common.{◌≡◌, ◌⊎◌, inl, inr, ℕ, suc, ◌+◌, ◌<◌, ◌≤◌, Bool, true, false, List, [], ◌∷◌, ◌++◌, length, map, refl, ap, ◌∙◌, sym, subst, arith, append_assoc, codes, pos, true≢false}
 use Rattle.std.specs.Prelude.{All}
 use Rattle.std.proofs.lemmas.List.{append-nil}
 use Rattle.std.proofs.lemmas.List.Elements.{All-nil, All-cons, All-head, All-tail}
@@ -7,8 +7,7 @@ use Rattle.std.proofs.lemmas.Slice.Eq.{bytes_eq-Decides}
 use Rattle.std.proofs.lemmas.Bool.Decides.{nat_tests}
 use Rattle.std.specs.Prelude.{bytes_eq, nat_lt}
 use Rattle.crontab_text.specs.Lines.{lines_of}
-use Rattle.due_set.proofs.SoundLemmas.{no_later}
-use Rattle.due_set.specs.Table.{Job, Table, AreNamesDistinct, AreZonesBelow, IsBuiltFor, utc_over}
+use Rattle.due_set.specs.Table.{Job, Table, IsBuiltFor, utc_over}
 use Rattle.run_text.specs.Reading.{IsRunText}
 use Rattle.run_text.specs.Run.{NamedZone, Run}
 use Rattle.run_text.specs.declared.refusal.Refusal.{Refusal}
@@ -19,16 +18,14 @@ use Rattle.zone_minutes.proofs.ZoneLemmas.{IsReadable-fixed}
 use Rattle.cron_fields.specs.declared.cause.Cause.TheVariants.{UnknownZone, DuplicateJob, TooManyJobs, TooManyDue, BadZone}
 use Rattle.job_table.specs.Collect.{Collected}
 use Rattle.job_table.specs.Jobs.{named_job, HasJob}
-use Rattle.job_table.specs.Marks.{Mark, MarksZone, MarksJob, AreMarks}
-use Rattle.job_table.specs.Table.{IsDueCount, IsTableOf, IsRefusedRun, HasBadZone, HasLineAtFault, at_line, jobs_of, table_of, whole_run, AreDecided}
+use Rattle.job_table.specs.Marks.{Mark, MarksZone, MarksJob, AreSound}
+use Rattle.job_table.specs.Table.{IsDueCount, IsTableOf, IsRefusedRun, HasBadZone, HasLineAtFault, HasVersionAtFault, at_line, names_in, table_of, whole_run, AreDecided}
+use Rattle.job_table.specs.Versions.{AreVersionMarks}
 use Rattle.job_table.specs.Zones.{AreReadable, HasZone, NamesZone, zones_over}
 use Rattle.job_table.proofs.DueCountLemmas.{due_count}
-use Rattle.job_table.proofs.JobLemmas.{distinct_push}
 use Rattle.job_table.proofs.MarkLemmas.{adds_zone, adds_job, refuses_zone, refuses_job}
-use Rattle.job_table.proofs.RunLemmas.{marks_exist}
-use Rattle.job_table.proofs.KindLemmas.{kinds_of_run}
-use Rattle.job_table.proofs.TableLemmas.{zones_below}
-use Rattle.job_table.proofs.ZoneLemmas.{zones_count}
+use Rattle.job_table.proofs.SoundTableLemmas.{sound_table}
+use Rattle.job_table.proofs.VersionMarkLemmas.{to_first, versions_exist}
 
 -- two texts are one, or not
 same_or_not : (a b : List ℕ) → (a ≡ b) ⊎ (a ≡ b → ⊥)
@@ -72,11 +69,10 @@ job_or_not name (job ∷ jobs) =
       ]
     ]
 
--- marks that are collected, and jobs of names of their own
+-- marks that are collected
 record Taken (zones : List NamedZone) (marks : List Mark) : Type 0 where
   pub jobs : List Job
   pub collected : Collected zones marks jobs
-  pub distinct : AreNamesDistinct jobs
 
 abbrev Verdict : List NamedZone → List Mark → Type 0
 Verdict zones marks = Taken zones marks ⊎ ((refusal : Refusal) × HasLineAtFault zones marks refusal)
@@ -90,7 +86,6 @@ judge zones before (MarksZone at name ∷ marks) taken =
       | inl named ↦ subst (Verdict zones) (append_assoc before mark marks) (judge zones (before ++ mark) marks (record {
         jobs = taken.jobs;
         collected = adds_zone zones taken.jobs at name named before taken.collected;
-        distinct = taken.distinct;
       }))
       | inr none ↦ subst (Verdict zones) (append_assoc before mark marks)
           (inr (at_line at UnknownZone, refuses_zone zones taken.jobs at name (at_line at UnknownZone) none refl before marks taken.collected))
@@ -103,12 +98,33 @@ judge zones before (MarksJob at name zone kind ∷ marks) taken =
       | inr none ↦ subst (Verdict zones) (append_assoc before mark marks) (judge zones (before ++ mark) marks (record {
         jobs = taken.jobs ++ named_job name zone kind ∷ [];
         collected = adds_job zones taken.jobs at name zone kind none before taken.collected;
-        distinct = distinct_push taken.jobs (named_job name zone kind) taken.distinct none;
       }))
     ]
 
 none_taken : (zones : List NamedZone) → Taken zones []
-none_taken zones = record { jobs = []; collected = record { sound = tt; are = refl }; distinct = λ i j d rises within. absurd (omega arith) }
+none_taken zones = record { jobs = []; collected = record { sound = tt; are = refl } }
+
+-- the marks of no version are at fault, or the first version at fault is told
+judge_versions : (zones : List NamedZone) (marks : List (List Mark)) → All (AreSound zones) marks ⊎ ((refusal : Refusal) × HasVersionAtFault zones marks refusal)
+judge_versions zones [] = inl (All-nil (AreSound zones))
+judge_versions zones (here ∷ marks) =
+    elim (judge zones [] here (none_taken zones)) [
+      | inr fault ↦ inr (fault.0, record { before = []; here = here; after = marks; parts = refl; sound = All-nil (AreSound zones); fault = fault.1 })
+      | inl taken ↦ elim (judge_versions zones marks) [
+        | inl others ↦ inl (All-cons (AreSound zones) here marks taken.collected.sound others)
+        | inr fault ↦ inr (
+          fault.0,
+          record {
+            before = here ∷ fault.1.before;
+            here = fault.1.here;
+            after = fault.1.after;
+            parts = ap (λ (l : List (List Mark)). here ∷ l) fault.1.parts;
+            sound = All-cons (AreSound zones) here fault.1.before taken.collected.sound fault.1.sound;
+            fault = fault.1.fault;
+          },
+        )
+      ]
+    ]
 
 -- each zone is read, or the first that is refused is told
 judge_zones : (zones : List NamedZone) → AreDecided zones → AreReadable zones ⊎ ((refusal : Refusal) × HasBadZone zones refusal)
@@ -164,55 +180,39 @@ few_or_many n limit = by (nat_lt limit n) refl
     by true is = inr (grind (arith, nat_tests))
     by false is = inl (grind (arith, nat_tests))
 
+-- the verdict on the due instants
+counted : (run : Run) (marks : List (List Mark)) → AreVersionMarks run marks → AreReadable run.zones → All (AreSound run.zones) marks → length (names_in marks) ≤ 1000
+    → (count : ℕ) × IsDueCount (table_of run marks) count → ((table : Table) × IsTableOf run table) ⊎ ((refusal : Refusal) × IsRefusedRun run refusal)
+counted run marks are readable sound few (count, counts) =
+    elim (few_or_many count 20_000) [
+      | inl fits ↦ inl (
+        table_of run marks,
+        record { readable = readable; marks = marks; are = are; sound = sound; few_jobs = few; is = refl; count = count; counted = counts; few_due = fits },
+      )
+      | inr many ↦ inr (
+        whole_run TooManyDue,
+        inr (record {
+          readable = readable;
+          marks = marks;
+          are = are;
+          why = inr (inr (record { sound = sound; few = few; count = count; counted = counts; many = many; is = refl }));
+        }),
+      )
+    ]
+
 pub some_verdict : (text : List ℕ) (run : Run) → IsRunText text run → AreDecided run.zones → ((table : Table) × IsTableOf run table) ⊎ ((refusal : Refusal) × IsRefusedRun run refusal)
 some_verdict text run says decided =
-    let sound = sound_run text run says in
-    let (marks, are) = marks_exist run.zones (1 + length (lines_of text)) run.sections sound.sections in
+    let known = sound_run text run says in
+    let (marks, size, from) = versions_exist run (1 + length (lines_of text)) known.sections (suc (length run.versions)) 0 in
+    let are = to_first run marks size from in
     elim (judge_zones run.zones decided) [
       | inr bad ↦ inr (bad.0, inl bad.1)
-      | inl readable ↦ elim (judge run.zones [] marks (none_taken run.zones)) [
+      | inl readable ↦ elim (judge_versions run.zones marks) [
         | inr fault ↦ inr (fault.0, inr (record { readable = readable; marks = marks; are = are; why = inl fault.1 }))
-        | inl taken ↦ elim (few_or_many (length (jobs_of marks)) 1000) [
-          | inr many ↦ inr (whole_run TooManyJobs, inr (record { readable = readable; marks = marks; are = are; why = inr (inl (record { sound = taken.collected.sound; many = many; is = refl })) }))
-          | inl few ↦ counted run marks are readable taken few (due_count (table_of run marks) (record {
-            limits = sound.limits;
-            grace = sound.grace;
-            built = all_built run.window run.zones decided readable;
-            zone_numbers = subst (λ n. AreZonesBelow n (jobs_of marks)) (zones_count run.window run.zones (zones_over run.window run.zones) refl) (zones_below run.zones run.sections marks are taken.collected.sound);
-            few = few;
-            distinct = subst AreNamesDistinct taken.collected.are taken.distinct;
-            kinds = kinds_of_run text run marks says are;
-            versions = no_later (table_of run marks);
-          }))
+        | inl sound ↦ elim (few_or_many (length (names_in marks)) 1000) [
+          | inr many ↦ inr (whole_run TooManyJobs, inr (record { readable = readable; marks = marks; are = are; why = inr (inl (record { sound = sound; many = many; is = refl })) }))
+          | inl few ↦ counted run marks are readable sound few
+              (due_count (table_of run marks) (sound_table text run marks says are sound few (all_built run.window run.zones decided readable)))
         ]
       ]
     ]
-  where
-    counted : (run : Run) (marks : List Mark) → AreMarks run.zones run.sections marks → AreReadable run.zones → Taken run.zones marks → length (jobs_of marks) ≤ 1000
-        → (count : ℕ) × IsDueCount (table_of run marks) count → ((table : Table) × IsTableOf run table) ⊎ ((refusal : Refusal) × IsRefusedRun run refusal)
-    counted run marks are readable taken few (count, counts) =
-        elim (few_or_many count 20_000) [
-          | inl fits ↦ inl (
-            table_of run marks,
-            record {
-              readable = readable;
-              marks = marks;
-              are = are;
-              sound = taken.collected.sound;
-              few_jobs = few;
-              is = refl;
-              count = count;
-              counted = counts;
-              few_due = fits;
-            },
-          )
-          | inr many ↦ inr (
-            whole_run TooManyDue,
-            inr (record {
-              readable = readable;
-              marks = marks;
-              are = are;
-              why = inr (inr (record { sound = taken.collected.sound; few = few; count = count; counted = counts; many = many; is = refl }));
-            }),
-          )
-        ]

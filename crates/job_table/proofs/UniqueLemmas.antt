@@ -1,5 +1,6 @@
 -- A run has one verdict: a table, or a refusal.
-use Rattle.std.proofs.Common.{◌≡◌, ℕ, ◌+◌, ◌≤◌, List, [], ◌∷◌, ◌++◌, length, map, Option, None, Some, refl, ap, ◌∙◌, sym, subst, inl, inr, arith, append_assoc}
+use Rattle.std.proofs.Common.{◌≡◌, ℕ, suc, ◌+◌, ◌≤◌, List, [], ◌∷◌, ◌++◌, length, map, Option, None, Some, refl, ap, ◌∙◌, sym, subst, inl, inr, arith, append_assoc}
+use Rattle.std.specs.Prelude.{All}
 use Rattle.std.specs.List.{AllZip}
 use Rattle.std.proofs.lemmas.List.{append-nil}
 use Rattle.std.proofs.lemmas.List.Elements.{All-head, All-tail}
@@ -17,11 +18,13 @@ use Rattle.run_text.specs.Follow.{style_of}
 use Rattle.run_text.specs.Run.{NamedZone, Section, Run}
 use Rattle.run_text.specs.declared.refusal.Refusal.{Refusal}
 use Rattle.job_table.specs.Marks.{Mark, MarksZone, MarksJob, marks_from, anacron_marks, AreTableMarks, AreSectionMarks, AreMarks, IsMarkFault, AreSoundBehind, AreSound, IsFirstMarkFault}
-use Rattle.job_table.specs.Table.{jobs_of, table_of, at_line, AreMarksRefused, HasBadZone, IsDueCount, IsTableOf, IsRefusedRun}
+use Rattle.job_table.specs.Table.{names_in, table_of, at_line, AreMarksRefused, HasBadZone, HasLineAtFault, HasVersionAtFault, IsDueCount, IsTableOf, IsRefusedRun}
+use Rattle.job_table.specs.Versions.{AreVersionMarks, sections_in}
 use Rattle.job_table.specs.Zones.{AreReadable, zone_number}
 use Rattle.zone_minutes.specs.Zone.{IsReadable, IsSourceRefused}
 use Rattle.zone_minutes.proofs.VerdictLemmas.{not_refused as not_read_and_refused}
-use Rattle.job_table.proofs.DueCountLemmas.{CountsFirst, counts_at_least}
+use Rattle.job_table.proofs.DueCountLemmas.{one_count}
+use Rattle.job_table.proofs.VersionMarkLemmas.{AreMarksFrom, from_first}
 use Rattle.cron_fields.specs.declared.cause.Cause.TheVariants.{BadZone}
 use Rattle.run_text.proofs.UniqueLemmas.{same_refusal}
 
@@ -64,13 +67,26 @@ same_section_marks zones section a b first second =
     first.all ∙ ap (λ l. MarksZone section.line section.zone ∷ l) (same_table_marks zones (style_of section.kind) section (zone_number section.zone zones) first.lines second.lines first.are second.are)
     ∙ sym second.all
 
--- a run has one list of marks
+-- a version has one list of marks
 same_marks : (zones : List NamedZone) (sections : List Section) (a b : List Mark) → AreMarks zones sections a → AreMarks zones sections b → a ≡ b
 same_marks zones [] a b first second = first ∙ sym second
 same_marks zones (section ∷ sections) a b (x, m, here, rest, is) (y, n, there, more, same) =
     let one = same_section_marks zones section x y here there in
     let others = same_marks zones sections m n rest more in
     is ∙ ap (λ l. l ++ m) one ∙ ap (λ l. y ++ l) others ∙ sym same
+
+-- a run has one list of marks for each version
+same_from : (run : Run) (version : ℕ) (a b : List (List Mark)) → length a ≡ length b → AreMarksFrom run version a → AreMarksFrom run version b → a ≡ b
+same_from run version [] [] size first second = refl
+same_from run version [] (y ∷ b) size first second = absurd (omega arith)
+same_from run version (x ∷ a) [] size first second = absurd (omega arith)
+same_from run version (x ∷ a) (y ∷ b) size first second =
+    let one = same_marks run.zones (sections_in run version) x y first.0 second.0 in
+    let others = same_from run (suc version) a b (omega arith) first.1 second.1 in
+    ap (λ (m : List Mark). m ∷ a) one ∙ ap (λ (l : List (List Mark)). y ∷ l) others
+
+same_version_marks : (run : Run) (a b : List (List Mark)) → AreVersionMarks run a → AreVersionMarks run b → a ≡ b
+same_version_marks run a b first second = same_from run 0 a b (first.versions ∙ sym second.versions) (from_first run a first) (from_first run b second)
 
 -- a mark at fault has one fault
 record SameFault (l m c d : ℕ) : Type 0 where
@@ -120,19 +136,39 @@ one_line_fault : (zones : List NamedZone) (marks : List Mark) (l m c d : ℕ) �
 one_line_fault zones marks l m c d first second =
     first_fault zones [] first.before second.before first.after second.after first.mark second.mark l m c d (sym first.parts ∙ second.parts) first.sound second.sound first.here second.here
 
--- a table has one due count
-counts_first : (table : Table) (count : ℕ) → IsDueCount table count → CountsFirst table (length table.jobs) count
-counts_first table count counted = record { shares = counted.shares; jobs_are = counted.jobs; each = counted.each; total_is = counted.total }
+-- a version at fault among some that are sound
+sound_at : (zones : List NamedZone) (before after : List (List Mark)) (here : List Mark) → All (AreSound zones) (before ++ here ∷ after) → AreSound zones here
+sound_at zones [] after here sound = All-head (AreSound zones) here after sound
+sound_at zones (m ∷ before) after here sound = sound_at zones before after here (All-tail (AreSound zones) m (before ++ here ∷ after) sound)
 
-one_count : (table : Table) (a b : ℕ) → IsDueCount table a → IsDueCount table b → a ≡ b
-one_count table a b first second =
-    let le = counts_at_least table (length table.jobs) a b (counts_first table a first) (omega arith) second in
-    let ge = counts_at_least table (length table.jobs) b a (counts_first table b second) (omega arith) first in
-    omega (arith, le, ge)
+all_sound_or_fault : (zones : List NamedZone) (marks : List (List Mark)) (refusal : Refusal) → All (AreSound zones) marks → HasVersionAtFault zones marks refusal → ⊥
+all_sound_or_fault zones marks refusal sound fault =
+    sound_or_fault zones fault.here refusal.line refusal.cause (sound_at zones fault.before fault.after fault.here (subst (All (AreSound zones)) fault.parts sound)) fault.fault.first
+
+-- the first version at fault is one
+first_version : (zones : List NamedZone) (before other after rest : List (List Mark)) (x y : List Mark) (a b : Refusal) → before ++ x ∷ after ≡ other ++ y ∷ rest
+    → All (AreSound zones) before → All (AreSound zones) other → HasLineAtFault zones x a → HasLineAtFault zones y b → x ≡ y
+first_version zones [] [] after rest x y a b is sound also fault too = cc
+first_version zones [] (z ∷ other) after rest x y a b is sound also fault too =
+    let same : x ≡ z = cc in
+    absurd (sound_or_fault zones z a.line a.cause (All-head (AreSound zones) z other also) (subst (λ m. IsFirstMarkFault zones m a.line a.cause) same fault.first))
+first_version zones (z ∷ before) [] after rest x y a b is sound also fault too =
+    let same : y ≡ z = cc in
+    absurd (sound_or_fault zones z b.line b.cause (All-head (AreSound zones) z before sound) (subst (λ m. IsFirstMarkFault zones m b.line b.cause) same too.first))
+first_version zones (z ∷ before) (w ∷ other) after rest x y a b is sound also fault too =
+    let tails : before ++ x ∷ after ≡ other ++ y ∷ rest = cc in
+    first_version zones before other after rest x y a b tails (All-tail (AreSound zones) z before sound) (All-tail (AreSound zones) w other also) fault too
+
+one_version_fault : (zones : List NamedZone) (marks : List (List Mark)) (a b : Refusal) → HasVersionAtFault zones marks a → HasVersionAtFault zones marks b → a ≡ b
+one_version_fault zones marks a b p q =
+    let same = first_version zones p.before q.before p.after q.after p.here q.here a b (sym p.parts ∙ q.parts) p.sound q.sound p.fault q.fault in
+    let fault = subst (λ m. HasLineAtFault zones m a) same p.fault in
+    let one = one_line_fault zones q.here a.line b.line a.cause b.cause fault.first q.fault.first in
+    same_refusal a b one.line one.cause (fault.place ∙ sym q.fault.place)
 
 pub one_table : (run : Run) (a b : Table) → IsTableOf run a → IsTableOf run b → a ≡ b
 one_table run a b first second =
-    first.is ∙ ap (table_of run) (same_marks run.zones run.sections first.marks second.marks first.are second.are) ∙ sym second.is
+    first.is ∙ ap (table_of run) (same_version_marks run first.marks second.marks first.are second.are) ∙ sym second.is
 
 -- a zone among some that are read
 readable_at : (before after : List NamedZone) (zone : NamedZone) → AreReadable (before ++ zone ∷ after) → IsReadable zone.source
@@ -158,10 +194,10 @@ not_read : (zones : List NamedZone) (refusal : Refusal) → AreReadable zones �
 not_read zones refusal readable bad =
     not_read_and_refused bad.zone.source (readable_at bad.before bad.after bad.zone (subst AreReadable bad.parts readable)) bad.refused
 
--- the verdicts on one list of marks
-not_refused : (run : Run) (marks : List Mark) (count : ℕ) (refusal : Refusal) → AreSound run.zones marks → length (jobs_of marks) ≤ 1000 → IsDueCount (table_of run marks) count → count ≤ 20_000
+-- the verdicts on the marks of all versions
+not_refused : (run : Run) (marks : List (List Mark)) (count : ℕ) (refusal : Refusal) → All (AreSound run.zones) marks → length (names_in marks) ≤ 1000 → IsDueCount (table_of run marks) count → count ≤ 20_000
     → AreMarksRefused run marks refusal → ⊥
-not_refused run marks count refusal sound few counted few_due (inl fault) = sound_or_fault run.zones marks refusal.line refusal.cause sound fault.first
+not_refused run marks count refusal sound few counted few_due (inl fault) = all_sound_or_fault run.zones marks refusal sound fault
 not_refused run marks count refusal sound few counted few_due (inr (inl many)) = omega (arith, many.many, few)
 not_refused run marks count refusal sound few counted few_due (inr (inr many)) =
     let same = one_count (table_of run marks) count many.count counted many.counted in omega (arith, many.many, few_due, same)
@@ -169,19 +205,18 @@ not_refused run marks count refusal sound few counted few_due (inr (inr many)) =
 pub not_refused_run : (run : Run) (table : Table) (refusal : Refusal) → IsTableOf run table → IsRefusedRun run refusal → ⊥
 not_refused_run run table refusal is (inl bad) = not_read run.zones refusal is.readable bad
 not_refused_run run table refusal is (inr refused) =
-    let same = same_marks run.zones run.sections refused.marks is.marks refused.are is.are in
+    let same = same_version_marks run refused.marks is.marks refused.are is.are in
     not_refused run is.marks is.count refusal is.sound is.few_jobs (subst (λ t. IsDueCount t is.count) is.is is.counted) is.few_due
     (subst (λ m. AreMarksRefused run m refusal) same refused.why)
 
-one_why : (run : Run) (marks : List Mark) (a b : Refusal) → AreMarksRefused run marks a → AreMarksRefused run marks b → a ≡ b
-one_why run marks a b (inl p) (inl q) =
-    let same = one_line_fault run.zones marks a.line b.line a.cause b.cause p.first q.first in same_refusal a b same.line same.cause (p.place ∙ sym q.place)
-one_why run marks a b (inl p) (inr (inl q)) = absurd (sound_or_fault run.zones marks a.line a.cause q.sound p.first)
-one_why run marks a b (inl p) (inr (inr q)) = absurd (sound_or_fault run.zones marks a.line a.cause q.sound p.first)
-one_why run marks a b (inr (inl p)) (inl q) = absurd (sound_or_fault run.zones marks b.line b.cause p.sound q.first)
+one_why : (run : Run) (marks : List (List Mark)) (a b : Refusal) → AreMarksRefused run marks a → AreMarksRefused run marks b → a ≡ b
+one_why run marks a b (inl p) (inl q) = one_version_fault run.zones marks a b p q
+one_why run marks a b (inl p) (inr (inl q)) = absurd (all_sound_or_fault run.zones marks a q.sound p)
+one_why run marks a b (inl p) (inr (inr q)) = absurd (all_sound_or_fault run.zones marks a q.sound p)
+one_why run marks a b (inr (inl p)) (inl q) = absurd (all_sound_or_fault run.zones marks b p.sound q)
 one_why run marks a b (inr (inl p)) (inr (inl q)) = p.is ∙ sym q.is
 one_why run marks a b (inr (inl p)) (inr (inr q)) = absurd (omega (arith, p.many, q.few))
-one_why run marks a b (inr (inr p)) (inl q) = absurd (sound_or_fault run.zones marks b.line b.cause p.sound q.first)
+one_why run marks a b (inr (inr p)) (inl q) = absurd (all_sound_or_fault run.zones marks b p.sound q)
 one_why run marks a b (inr (inr p)) (inr (inl q)) = absurd (omega (arith, q.many, p.few))
 one_why run marks a b (inr (inr p)) (inr (inr q)) = p.is ∙ sym q.is
 
@@ -194,5 +229,5 @@ one_refused_run run a b (inl first) (inl second) = one_bad_zone run.zones a b fi
 one_refused_run run a b (inl first) (inr second) = absurd (not_read run.zones a second.readable first)
 one_refused_run run a b (inr first) (inl second) = absurd (not_read run.zones b first.readable second)
 one_refused_run run a b (inr first) (inr second) =
-    let same = same_marks run.zones run.sections first.marks second.marks first.are second.are in
+    let same = same_version_marks run first.marks second.marks first.are second.are in
     one_why run second.marks a b (subst (λ m. AreMarksRefused run m a) same first.why) second.why

@@ -1,11 +1,12 @@
 -- Marks that are collected, and the jobs that they have brought. Private functions alone cite it.
-use Rattle.std.specs.Prelude.{◌≡◌, ℕ, ◌+◌, Bool, true, false, List, [], ◌∷◌, ◌++◌, if◌then◌else◌, codes, bytes_eq}
+use Rattle.std.specs.Prelude.{◌≡◌, ℕ, ◌+◌, Bool, true, false, List, [], ◌∷◌, ◌++◌, if◌then◌else◌, codes, bytes_eq, map, All}
 use Rattle.crontab_text.specs.LineBody.{LineBody, BlankBody, CommentBody, AssignBody, EntryBody, NickBody}
 use Rattle.due_set.specs.Table.{Job}
 use Rattle.run_text.specs.declared.refusal.Refusal.{Refusal}
 use Rattle.run_text.specs.Run.{NamedZone, Section, Run}
 use Rattle.job_table.specs.Marks.{Mark, marks_from, AreSectionMarks, AreMarks, AreSound}
-use Rattle.job_table.specs.Table.{jobs_of, at_line, HasLineAtFault}
+use Rattle.job_table.specs.Table.{jobs_of, at_line, HasLineAtFault, HasVersionAtFault}
+use Rattle.job_table.specs.Versions.{AreVersionMarks, sections_in}
 use Rattle.job_table.specs.declared.crontab.Above.{Above}
 use Rattle.job_table.specs.Zones.{NamesZone, zone_number}
 use Rattle.cron_fields.specs.declared.cause.Cause.TheVariants.{UnknownZone}
@@ -75,14 +76,27 @@ abbrev pub entry_lines_in : List LineBody → ℕ
 entry_lines_in [] = 0
 entry_lines_in (body ∷ bodies) = entries_of (is_entry body) + entry_lines_in bodies
 
--- the run's marks have these jobs, and none of them is at fault
-pub record HasMarkedJobs (run : Run) (jobs : List Job) : Type 0 where
+-- the marks of a version have these jobs, and none of them is at fault
+pub record HasMarkedJobs (run : Run) (version : ℕ) (jobs : List Job) : Type 0 where
   pub marks : List Mark
-  pub are : AreMarks run.zones run.sections marks
+  pub are : AreMarks run.zones (sections_in run version) marks
   pub collected : Collected run.zones marks jobs
 
--- one of the run's marks is at fault
-pub record HasFaultyMarks (run : Run) (refusal : Refusal) : Type 0 where
+-- one of the marks of a version is at fault
+pub record HasFaultyMarks (run : Run) (version : ℕ) (refusal : Refusal) : Type 0 where
   pub marks : List Mark
-  pub are : AreMarks run.zones run.sections marks
+  pub are : AreMarks run.zones (sections_in run version) marks
   pub fault : HasLineAtFault run.zones marks refusal
+
+-- the marks of each version have the jobs of its place, and none of them is at fault
+pub record HaveMarkedJobs (run : Run) (jobs : List (List Job)) : Type 0 where
+  pub marks : List (List Mark)
+  pub are : AreVersionMarks run marks
+  pub sound : All (AreSound run.zones) marks
+  pub jobs_are : jobs ≡ map jobs_of marks
+
+-- one of the marks of some version is at fault, the first such one
+pub record HasFaultyVersion (run : Run) (refusal : Refusal) : Type 0 where
+  pub marks : List (List Mark)
+  pub are : AreVersionMarks run marks
+  pub fault : HasVersionAtFault run.zones marks refusal

@@ -1,12 +1,13 @@
 //! The jobs of a run, collected section by section.
-ghost use Rattle.std.specs.Prelude.{◌+◌, ◌<◌, ◌≤◌, ◌^◌, length, map, IfErr, OnOk, IfOk};
+ghost use Rattle.std.specs.Prelude.{◌≡◌, ◌+◌, ◌<◌, ◌≤◌, ◌^◌, length, map, IfErr, OnOk, IfOk};
 ghost use Rattle.crontab_text.specs.Lines.{lines_of};
 ghost use Rattle.run_text.specs.Follow.{style_of};
 ghost use Rattle.run_text.specs.Reading.{IsReadRun};
 ghost use Rattle.run_text.specs.Run.{section_of, run_of, zone_of};
 ghost use Rattle.run_text.specs.Steps.{IfRefused};
 ghost use Rattle.run_text.specs.Table.{AreSaid};
-ghost use Rattle.job_table.specs.Collect.{AddsSection, RefusesSection, HasMarkedJobs, HasFaultyMarks};
+ghost use Rattle.job_table.specs.Collect.{AddsSection, RefusesSection, HasMarkedJobs, HasFaultyMarks, HaveMarkedJobs, HasFaultyVersion};
+ghost use Rattle.job_table.specs.Versions.{first_section};
 
 use crate::anacrontab::add_anacrontab;
 use crate::crontab::add_crontab;
@@ -40,19 +41,52 @@ pub fn add_section(
     }
 }
 
-/// Collects the jobs of a run's sections, one section after another.
+/// Collects the jobs of a version's sections, one section after another.
 ///
 /// # Errors
 ///
 /// The first line that names no zone of the run, or brings a job whose name is there; or want of memory.
-pub fn collect(alloc: Global, run: &RunFile<'_>) -> Result<Jobs, RunFault>
-    requires { IsReadRun run.now }
-    ensures jobs { IfOk result (HasMarkedJobs (run_of run.now)) }
-    ensures refused { IfErr result (λ fault. IfRefused fault (HasFaultyMarks (run_of run.now))) }
+fn collect(alloc: Global, run: &RunFile<'_>, version: usize) -> Result<Jobs, RunFault>
+    requires run { IsReadRun run.now }
+    requires version { version ≤ length run.now.versions.items }
+    ensures jobs { IfOk result (HasMarkedJobs (run_of run.now) version) }
+    ensures refused { IfErr result (λ fault. IfRefused fault (HasFaultyMarks (run_of run.now) version)) }
 {
     let mut jobs = Jobs::new(alloc);
-    for section in &run.sections {
-        add_section(alloc, run.zones.as_slice(), &mut jobs, section)?;
+    for place in first_section(run, version)..first_section(run, version + 1) {
+        add_section(alloc, run.zones.as_slice(), &mut jobs, &run.sections[place])?;
     }
     Ok(jobs)
+}
+
+// How many sections stand above a version; behind the last version, all of them.
+fn first_section(run: &RunFile<'_>, version: usize) -> usize
+    requires { IsReadRun run.now }
+    ensures number { result ≡ first_section (run_of run.now) version }
+    ensures within { result ≤ length run.now.sections.items }
+{
+    if version == 0 {
+        return 0;
+    }
+    match run.versions.get(version - 1) {
+        Some(version) => version.first_section as usize,
+        None => run.sections.len(),
+    }
+}
+
+/// Collects the jobs of a run, of one version after another.
+///
+/// # Errors
+///
+/// The first line that names no zone of the run, or brings a job whose name is there in its version; or want of memory.
+pub fn collect_versions(alloc: Global, run: &RunFile<'_>) -> Result<Vec<Jobs>, RunFault>
+    requires { IsReadRun run.now }
+    ensures jobs { IfOk result (λ versions. HaveMarkedJobs (run_of run.now) versions.items) }
+    ensures refused { IfErr result (λ fault. IfRefused fault (HasFaultyVersion (run_of run.now))) }
+{
+    let mut versions = Vec::new(alloc);
+    for version in 0..run.versions.len() + 1 {
+        versions.push(collect(alloc, run, version)?)?;
+    }
+    Ok(versions)
 }

@@ -1,8 +1,9 @@
-ghost use Rattle.std.specs.Prelude.{◌≡◌, ◌++◌, ◌∷◌, [], map, length, string_bytes, Ok, IfOk, IfErr, OnOk};
-ghost use Rattle.due_set.specs.Table.{Job, job_of, AreNamesDistinct};
+ghost use Rattle.std.specs.Prelude.{◌≡◌, ◌<◌, ◌++◌, ◌∷◌, [], map, length, slice_get, string_bytes, Ok, IfOk, IfErr, OnOk, IsSomeAnd};
+ghost use Rattle.due_set.specs.Table.{Job, job_of, own_name, AreNamesDistinct};
 ghost use Rattle.run_text.specs.Steps.{IfRefused};
 ghost use Rattle.job_table.specs.Jobs.{named_job, entry_job, Adds, HasJob};
 ghost use Rattle.job_table.specs.Table.{at_line};
+ghost use Rattle.job_table.specs.Versions.{job_named, jobs_under, with_name};
 
 use cron_fields::Cause;
 use cron_io::OutOfMemory;
@@ -19,6 +20,12 @@ pub struct Timing {
     pub zone: u16,
     pub kind: JobKind,
 }
+
+// A job that a version lacks: by UTC, at no time.
+const NEVER: Timing = Timing {
+    zone: 0,
+    kind: JobKind::Never,
+};
 
 /// The jobs so far, each under its name, in the order in which they came.
 #[derive(Debug, Drop)]
@@ -64,6 +71,48 @@ impl Jobs {
         }
         self.timings.insert(name, timing)?;
         Ok(true)
+    }
+
+    /// The name of the job at a place.
+    pub fn name(&self, place: usize) -> &str
+        requires { place < length self.now }
+        ensures { IsSomeAnd (slice_get self.now place) (λ job. result.now ≡ job.name) }
+    {
+        let (name, _) = self.timings.get_index(place).unwrap();
+        name.as_str()
+    }
+
+    /// When the job of a name runs, and by which zone; at no time, where there is none.
+    pub fn timing(&self, name: &str) -> Timing
+        ensures { named_job name.now result.zone result.kind ≡ job_named name.now self.now }
+    {
+        match self.timings.get(name) {
+            Some(timing) => *timing,
+            None => NEVER,
+        }
+    }
+
+    /// Adds a job of the name that never runs, where there is none.
+    pub fn add_name(&mut self, alloc: Global, name: &str) -> Result<(), OutOfMemory>
+        ensures { OnOk result (self.new ≡ jobs_under (with_name (map own_name self.old) name.now) self.old) }
+    {
+        if !self.timings.contains_key(name) {
+            self.timings.insert(String::from_str(alloc, name)?, NEVER)?;
+        }
+        Ok(())
+    }
+
+    /// The jobs under these names, as those of a table.
+    pub fn specs_under(&self, alloc: Global, names: &Jobs) -> Result<Vec<JobSpec>, OutOfMemory>
+        ensures { IfOk result (λ specs. map job_of specs.items ≡ jobs_under (map own_name names.now) self.now) }
+    {
+        let mut specs = Vec::new(alloc);
+        for place in 0..names.len() {
+            let name = names.name(place);
+            let timing = self.timing(name);
+            specs.push(JobSpec::new(alloc, name, timing.zone, timing.kind)?)?;
+        }
+        Ok(specs)
     }
 
     /// The jobs as those of a table.

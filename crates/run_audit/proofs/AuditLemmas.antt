@@ -9,9 +9,11 @@ use Rattle.run_text.specs.declared.run.RunFile.{RunFile}
 use Rattle.run_text.proofs.SoundLemmas.{sound_run}
 use Rattle.crontab_text.specs.Lines.{lines_of}
 use Rattle.job_table.specs.Table.{IsTableOf}
+use Rattle.job_table.proofs.FieldLemmas.{table_window}
 use Rattle.job_table.proofs.NameLemmas.{words_of_run}
 use Rattle.job_table.specs.Names.{HaveWordNames}
 use Rattle.script_text.specs.Command.{IsInRange}
+use Rattle.zone_minutes.specs.declared.minute.Window.{Window}
 
 -- what holds of each element, one after another, holds at each place
 each_at : {X : Type 0} (holds : X → Type 0) (xs : List X) → AllByRecursion holds xs → (place : ℕ) (none : X) → place < length xs → holds (get_or xs place none)
@@ -33,6 +35,6 @@ fit_to_audit run table read is =
       some = omega (arith, sound.replicas.some);
       few = sound.replicas.few;
       names = words_of_run read.text (run_of run) table read.says is;
-      range = subst (λ (t : Table). All (λ command. IsInRange run.members t.window command) (run_of run).commands) (sym is.is)
+      range = subst (λ (w : Window). All (λ command. IsInRange run.members w command) (run_of run).commands) (sym (table_window (run_of run) table is))
           (each_at (IsInRange run.members (run_of run).window) (run_of run).commands sound.script.in_range);
     }

@@ -71,7 +71,9 @@ end_next number behind (Sections run) next line all (inl may) =
     subst (AllEndAbove (number + 1)) (sym may.1) (all_later number (number + 1) run.sections (omega arith) all)
 end_next number behind (Sections run) next line all (inr (inl names)) =
     subst (AllEndAbove (number + 1)) (sym names.next_is) (all_later number (number + 1) run.sections (omega arith) all)
-end_next number behind (Sections run) next line all (inr (inr start)) =
+end_next number behind (Sections run) next line all (inr (inr (inr begins))) =
+    subst (AllEndAbove (number + 1)) (sym begins.next_is) (all_later number (number + 1) run.sections (omega arith) all)
+end_next number behind (Sections run) next line all (inr (inr (inl start))) =
     subst (AllEndAbove (number + 1)) (sym start.next_is)
     (all_inside (number + 1) run (opened number start.kind start.label start.zone) start.count (all_later number (number + 1) run.sections (omega arith) all) (omega arith))
 end_next number behind (Table run section left) next line all (may, next_is) =
@@ -144,8 +146,9 @@ judged_line number behind (Replicas members) next line may all = (tt, may)
 judged_line number behind (Times members window) next line may all = (tt, may)
 judged_line number behind (Sections run) next line (inl may) all = (subst AllSaid may.1 all, inl may)
 judged_line number behind (Sections run) next line (inr (inl names)) all = (subst AllSaid names.next_is all, inr (inl names))
-judged_line number behind (Sections run) next line (inr (inr start)) all =
-    (said_before run (opened number start.kind start.label start.zone) start.count (subst AllSaid start.next_is all), inr (inr start))
+judged_line number behind (Sections run) next line (inr (inr (inl start))) all =
+    (said_before run (opened number start.kind start.label start.zone) start.count (subst AllSaid start.next_is all), inr (inr (inl start)))
+judged_line number behind (Sections run) next line (inr (inr (inr begins))) all = (subst AllSaid begins.next_is all, inr (inr (inr begins)))
 judged_line number behind (Table run section zero) next line (may, next_is) all =
     let said : AllByRecursion IsSaid (run.sections ++ with_line section line ∷ []) = subst AllSaid next_is all in
     let last : AreSaid (style_of section.kind) section.label (section.lines ++ line ∷ []) = all_at IsSaid run.sections [] (with_line section line) said in

@@ -6,6 +6,7 @@ mod SectionLemmas
 mod ScriptLemmas
 mod StepLemmas
 mod TableLemmas
+mod VersionLemmas
 mod WindowLemmas
 mod WordLemmas
 mod ZoneLemmas

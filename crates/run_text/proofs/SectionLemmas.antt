@@ -29,14 +29,14 @@ pub opening_leads : {tables : Tables} (old new : Reader) (opening : Opening) →
     → (run : Run) → CarriesBack tables (place_of old (Sections run)) (place_of new (at_table new opening run))
 opening_leads old new opening passes is_whole run =
     one_line_at old new (Sections run) (at_table new opening run) passes.line passes.number passes.lines
-    (inr (inr (record {
+    (inr (inr (inl (record {
       kind = opening.kind;
       label = opening.label.now;
       zone = opening.zone.now;
       count = opening.count;
       opens = record { is = passes.is; whole = is_whole };
       next_is = ap (λ n. at_number n opening run) passes.number;
-    })))
+    }))))
 
 -- no section opens where too few lines are left
 opens_none : (line : List ℕ) (kind : SectionKind) (label zone : List ℕ) (count behind : ℕ) → IsSectionLine line kind label zone count → behind < count → OpensNone behind line

@@ -5,6 +5,7 @@ use Rattle.std.specs.List.{AllByRecursion}
 use Rattle.std.proofs.lemmas.List.{map-append, length-map}
 use Rattle.zone_minutes.specs.Window.{IsWithinLimits}
 use Rattle.zone_minutes.specs.Zone.{Source}
+use Rattle.zone_minutes.specs.declared.minute.Minute.{Minute}
 use Rattle.zone_minutes.specs.declared.minute.Window.{Window}
 use Rattle.script_text.specs.Command.{IsInRange}
 use Rattle.anacron_text.specs.Settings.{no_settings}
@@ -12,14 +13,16 @@ use Rattle.crontab_text.specs.Lines.{lines_of}
 use Rattle.crontab_text.specs.declared.answer.Style.{Style}
 use Rattle.run_text.specs.Follow.{Above, Nothing, Version, Replicas, Times, Sections, Table, Script, End, inside, style_of, MayStandIn, MayStandBelow, AddsCommand}
 use Rattle.run_text.specs.Reading.{ReadsFrom, IsRunText}
-use Rattle.run_text.specs.Run.{NamedZone, Section, Run, run_with, opened, with_line, with_section, with_zone, with_command}
+use Rattle.run_text.specs.Run.{NamedZone, Section, Run, run_with, opened, with_line, with_section, with_version, with_zone, with_command}
 use Rattle.run_text.specs.Sound.{IsSoundSection, IsSoundSource, IsSoundZone, AreDistinct, AreSoundZones, AreSoundReplicas, IsSoundRun}
 use Rattle.run_text.specs.Table.{Says, AreSaid}
+use Rattle.run_text.specs.Versions.{BeginsVersion}
 use Rattle.run_text.specs.Zones.{IsSourceText, fixed, posix, tzif, AddsZone, zone_names_of}
 use Rattle.run_text.specs.declared.run.SectionKind.{SectionKind}
 use Rattle.run_text.specs.declared.table.Tables.TheVariants.{Judged}
 use Rattle.run_text.proofs.AnacrontabLemmas.{say_none}
 use Rattle.run_text.proofs.OffsetLemmas.{offset_in_range}
+use Rattle.run_text.proofs.VersionLemmas.{no_versions, versions_kept, versions_pushed}
 use Rattle.cron_io.proofs.ListLemmas.{all_push}
 
 -- what is known of the lines of a section so far: those of an anacrontab are judged at its last
@@ -52,6 +55,7 @@ later_run number next run le sound = record {
   grace = sound.grace;
   zones = sound.zones;
   sections = all_next (IsSoundSection number) (IsSoundSection next) run.sections (later_section number next le) sound.sections;
+  versions = sound.versions;
   script = sound.script;
 }
 
@@ -62,6 +66,7 @@ with_one_more number run section sound part = record {
   grace = sound.grace;
   zones = sound.zones;
   sections = all_push (IsSoundSection number) run.sections section sound.sections part;
+  versions = versions_kept run section sound.versions;
   script = record { in_range = sound.script.in_range; limits = sound.script.limits };
 }
 
@@ -100,6 +105,19 @@ with_zone_more next number run line name source sound adds = record {
   grace = sound.grace;
   zones = sound_zones run.zones (record { line = number; name = name; source = source }) line sound.zones adds;
   sections = sound.sections;
+  versions = record { few = sound.versions.few; inside = sound.versions.inside; within = sound.versions.within; in_order = sound.versions.in_order };
+  script = record { in_range = sound.script.in_range; limits = sound.script.limits };
+}
+
+with_version_more : (next number : ℕ) (run : Run) (line : List ℕ) (from : Minute) → IsSoundRun next run → BeginsVersion run line from
+    → IsSoundRun next (with_version run number from)
+with_version_more next number run line from sound begins = record {
+  replicas = sound.replicas;
+  limits = sound.limits;
+  grace = sound.grace;
+  zones = sound.zones;
+  sections = sound.sections;
+  versions = versions_pushed run number line from sound.versions begins;
   script = record { in_range = sound.script.in_range; limits = sound.script.limits };
 }
 
@@ -112,6 +130,7 @@ sound_head number members window grace replicas limits short = record {
   grace = short;
   zones = no_zones;
   sections = tt;
+  versions = no_versions members window grace;
   script = record { in_range = tt; limits = record { commands = omega arith; rounds = omega arith; free_turns = omega arith } };
 }
 
@@ -124,6 +143,7 @@ with_command_more number run line next sound adds = record {
   grace = sound.grace;
   zones = sound.zones;
   sections = sound.sections;
+  versions = record { few = sound.versions.few; inside = sound.versions.inside; within = sound.versions.within; in_order = sound.versions.in_order };
   script = record {
     in_range = all_push (IsInRange run.members run.window) run.commands adds.command sound.script.in_range adds.says.is.in_range;
     limits = adds.says.within;
@@ -175,7 +195,10 @@ good_next number behind (Times members window) next line good (grace, is, next_i
 good_next number behind (Sections run) next line good (inl may) = subst (Good (number + 1)) (sym may.1) (later_run number (number + 1) run (omega arith) good)
 good_next number behind (Sections run) next line good (inr (inl names)) =
     subst (Good (number + 1)) (sym names.next_is) (with_zone_more (number + 1) number run line names.name names.source (later_run number (number + 1) run (omega arith) good) names.adds)
-good_next number behind (Sections run) next line good (inr (inr start)) =
+good_next number behind (Sections run) next line good (inr (inr (inr begins))) =
+    subst (Good (number + 1)) (sym begins.next_is)
+    (with_version_more (number + 1) number run line begins.from (later_run number (number + 1) run (omega arith) good) begins.begins)
+good_next number behind (Sections run) next line good (inr (inr (inl start))) =
     subst (Good (number + 1)) (sym start.next_is)
     (good_start (number + 1) number run start.kind start.label start.zone start.count (omega arith) (later_run number (number + 1) run (omega arith) good))
 good_next number behind (Table run section left) next line good (may, next_is) =

@@ -10,7 +10,7 @@ use Rattle.script_text.specs.Command.{command_line}
 use Rattle.script_text.specs.declared.command.Command.{Command}
 use Rattle.script_text.specs.declared.command.Command.TheVariants as command
 use Rattle.script_text.proofs.UniqueLemmas.{one_command}
-use Rattle.run_text.specs.Follow.{Above, Nothing, Version, Replicas, Times, Sections, Table, Script, End, inside, style_of, MayStandIn, MayStandBelow, OpensZone, StartsSection, IsOfLine, Refuses, RefusesInTable, RefusesBeforeScript, RefusesInScript, AddsCommand, Misses}
+use Rattle.run_text.specs.Follow.{Above, Nothing, Version, Replicas, Times, Sections, Table, Script, End, inside, style_of, MayStandIn, MayStandBelow, OpensZone, OpensVersion, StartsSection, IsOfLine, Refuses, RefusesInTable, RefusesBeforeScript, RefusesInScript, AddsCommand, Misses}
 use Rattle.run_text.specs.Grammar.{HasSectionWord}
 use Rattle.run_text.specs.Reading.{ReadsFrom, RefusesFrom}
 use Rattle.run_text.specs.Run.{Run, Section, opened, with_line}
@@ -20,9 +20,11 @@ use Rattle.run_text.specs.declared.table.Tables.{Tables}
 use Rattle.run_text.specs.declared.table.Tables.TheVariants.{Judged, Counted}
 use Rattle.run_text.proofs.AnacrontabLemmas as anacrontab
 use Rattle.run_text.proofs.PhraseLemmas.{one_members, one_grace_line, one_opening, opening_word}
+use Rattle.run_text.proofs.VersionLemmas.{version_word, one_beginning}
 use Rattle.run_text.proofs.WindowLemmas.{one_window_line}
 use Rattle.run_text.proofs.ZoneLemmas.{zone_word, one_zone}
-use Rattle.run_text.specs.Zones.{HasZoneWord, zone_names_of}
+use Rattle.run_text.specs.Versions.{HasVersionWord}
+use Rattle.run_text.specs.Zones.{HasZoneWord}
 
 -- two texts with another byte at a place
 at_differs : {a b : List ℕ} (place : ℕ) → a ≡ b → (get_or a place 0 ≡ get_or b place 0 → ⊥) → ⊥
@@ -41,6 +43,17 @@ section_no_zone : (line : List ℕ) → HasSectionWord line → HasZoneWord line
 section_no_zone line (User, is) other = at_differs 0 (sym is ∙ other) (λ e. omega arith)
 section_no_zone line (System, is) other = at_differs 0 (sym is ∙ other) (λ e. omega arith)
 section_no_zone line (Anacron, is) other = at_differs 0 (sym is ∙ other) (λ e. omega arith)
+
+script_no_version : HasVersionWord (codes "script") → ⊥
+script_no_version is = at_differs 0 is (λ e. omega arith)
+
+section_no_version : (line : List ℕ) → HasSectionWord line → HasVersionWord line → ⊥
+section_no_version line (User, is) other = at_differs 0 (sym is ∙ other) (λ e. omega arith)
+section_no_version line (System, is) other = at_differs 0 (sym is ∙ other) (λ e. omega arith)
+section_no_version line (Anacron, is) other = at_differs 0 (sym is ∙ other) (λ e. omega arith)
+
+zone_no_version : (line : List ℕ) → HasZoneWord line → HasVersionWord line → ⊥
+zone_no_version line is other = at_differs 0 (sym is ∙ other) (λ e. omega arith)
 
 end_says_none : (command : Command) → codes "end" ≡ command_line command → ⊥
 end_says_none (command.Round at rounds) is = at_differs 0 is (λ e. omega arith)
@@ -83,7 +96,8 @@ few_next tables number behind (Replicas members) line next few (window, is, next
 few_next tables number behind (Times members window) line next few (grace, is, next_is) = subst HasFew (sym next_is) few
 few_next tables number behind (Sections run) line next few (inl may) = subst HasFew (sym may.1) few
 few_next tables number behind (Sections run) line next few (inr (inl names)) = subst HasFew (sym names.next_is) few
-few_next tables number behind (Sections run) line next few (inr (inr start)) =
+few_next tables number behind (Sections run) line next few (inr (inr (inr begins))) = subst HasFew (sym begins.next_is) few
+few_next tables number behind (Sections run) line next few (inr (inr (inl start))) =
     subst HasFew (sym start.next_is) (few_inside run (opened number start.kind start.label start.zone) start.count few)
 few_next tables number behind (Table run section left) line next few may = subst HasFew (sym may.1) (few_inside run (with_line section line) left few)
 few_next tables number behind (Script run) line next few (inl may) = subst HasFew (sym may.1) few
@@ -122,6 +136,25 @@ next_of_name number run line x y first second =
     let same = one_zone line first.name second.name first.source second.source first.adds.is second.adds.is in
     first.next_is ∙ rw (same.0, same.1) (sym second.next_is)
 
+-- a line that begins a version is of no other kind
+begun_word : (number : ℕ) (run : Run) (line : List ℕ) (x : Above) → OpensVersion number run line x → HasVersionWord line
+begun_word number run line x begins = version_word line (suc (length run.versions)) begins.from begins.begins.is
+
+script_no_begin : (number : ℕ) (run : Run) (line : List ℕ) (x : Above) → line ≡ codes "script" → OpensVersion number run line x → ⊥
+script_no_begin number run line x is begins = script_no_version (subst HasVersionWord is (begun_word number run line x begins))
+
+name_no_begin : (number : ℕ) (run : Run) (line : List ℕ) (x y : Above) → OpensZone number run line x → OpensVersion number run line y → ⊥
+name_no_begin number run line x y names begins =
+    zone_no_version line (zone_word line names.name names.source names.adds.is) (begun_word number run line y begins)
+
+start_no_begin : (number behind : ℕ) (run : Run) (line : List ℕ) (x y : Above) → StartsSection number behind run line x → OpensVersion number run line y → ⊥
+start_no_begin number behind run line x y start begins =
+    section_no_version line (opening_word line start.kind start.label start.zone start.count start.opens.is) (begun_word number run line y begins)
+
+next_of_begin : (number : ℕ) (run : Run) (line : List ℕ) (x y : Above) → OpensVersion number run line x → OpensVersion number run line y → x ≡ y
+next_of_begin number run line x y first second =
+    first.next_is ∙ rw (one_beginning run line first.from second.from first.begins second.begins) (sym second.next_is)
+
 one_next : (tables : Tables) (number behind : ℕ) (above : Above) (line : List ℕ) (x y : Above) → HasFew above → MayStandBelow tables number behind above line x → MayStandBelow tables number behind above line y → x ≡ y
 one_next tables number behind Nothing line x y few p q = p.1 ∙ sym q.1
 one_next tables number behind Version line x y few (a, is, next) (b, other, same) = next ∙ rw (one_members line a b is other) (sym same)
@@ -129,13 +162,20 @@ one_next tables number behind (Replicas members) line x y few (a, is, next) (b, 
 one_next tables number behind (Times members window) line x y few (a, is, next) (b, other, same) = next ∙ rw (one_grace_line line a b is other) (sym same)
 one_next tables number behind (Sections run) line x y few (inl p) (inl q) = p.1 ∙ sym q.1
 one_next tables number behind (Sections run) line x y few (inl p) (inr (inl q)) = absurd (script_no_name number run line y p.0 q)
-one_next tables number behind (Sections run) line x y few (inl p) (inr (inr q)) = absurd (script_no_start number behind run line y p.0 q)
+one_next tables number behind (Sections run) line x y few (inl p) (inr (inr (inl q))) = absurd (script_no_start number behind run line y p.0 q)
+one_next tables number behind (Sections run) line x y few (inl p) (inr (inr (inr q))) = absurd (script_no_begin number run line y p.0 q)
 one_next tables number behind (Sections run) line x y few (inr (inl p)) (inl q) = absurd (script_no_name number run line x q.0 p)
 one_next tables number behind (Sections run) line x y few (inr (inl p)) (inr (inl q)) = next_of_name number run line x y p q
-one_next tables number behind (Sections run) line x y few (inr (inl p)) (inr (inr q)) = absurd (name_no_start number behind run line x y p q)
-one_next tables number behind (Sections run) line x y few (inr (inr p)) (inl q) = absurd (script_no_start number behind run line x q.0 p)
-one_next tables number behind (Sections run) line x y few (inr (inr p)) (inr (inl q)) = absurd (name_no_start number behind run line y x q p)
-one_next tables number behind (Sections run) line x y few (inr (inr p)) (inr (inr q)) = next_of_start number behind run line x y p q
+one_next tables number behind (Sections run) line x y few (inr (inl p)) (inr (inr (inl q))) = absurd (name_no_start number behind run line x y p q)
+one_next tables number behind (Sections run) line x y few (inr (inl p)) (inr (inr (inr q))) = absurd (name_no_begin number run line x y p q)
+one_next tables number behind (Sections run) line x y few (inr (inr (inl p))) (inl q) = absurd (script_no_start number behind run line x q.0 p)
+one_next tables number behind (Sections run) line x y few (inr (inr (inl p))) (inr (inl q)) = absurd (name_no_start number behind run line y x q p)
+one_next tables number behind (Sections run) line x y few (inr (inr (inl p))) (inr (inr (inl q))) = next_of_start number behind run line x y p q
+one_next tables number behind (Sections run) line x y few (inr (inr (inl p))) (inr (inr (inr q))) = absurd (start_no_begin number behind run line x y p q)
+one_next tables number behind (Sections run) line x y few (inr (inr (inr p))) (inl q) = absurd (script_no_begin number run line x q.0 p)
+one_next tables number behind (Sections run) line x y few (inr (inr (inr p))) (inr (inl q)) = absurd (name_no_begin number run line y x q p)
+one_next tables number behind (Sections run) line x y few (inr (inr (inr p))) (inr (inr (inl q))) = absurd (start_no_begin number behind run line y x q p)
+one_next tables number behind (Sections run) line x y few (inr (inr (inr p))) (inr (inr (inr q))) = next_of_begin number run line x y p q
 one_next tables number behind (Table run section left) line x y few p q = p.1 ∙ sym q.1
 one_next tables number behind (Script run) line x y few (inl p) (inl q) = p.1 ∙ sym q.1
 one_next tables number behind (Script run) line x y few (inl p) (inr q) = absurd (end_adds_none run line y p.0 q)
@@ -168,29 +208,42 @@ one_break Judged None number section zero line a b first second =
 one_break Judged None number section (suc left) line a b first second = absurd first
 
 -- a line that may stand there isn't refused
-start_not_refused : (number behind : ℕ) (known : List (List ℕ)) (run : Run) (line : List ℕ) (next : Above) (fault : ℕ)
-    → StartsSection number behind run line next → RefusesBeforeScript behind known line fault → ⊥
-start_not_refused number behind known run line next fault p (inl refused) = refused.1 p.kind p.label p.zone p.count p.opens
-start_not_refused number behind known run line next fault p (inr (inl refused)) =
+start_not_refused : (number behind : ℕ) (run : Run) (line : List ℕ) (next : Above) (fault : ℕ)
+    → StartsSection number behind run line next → RefusesBeforeScript behind run line fault → ⊥
+start_not_refused number behind run line next fault p (inl refused) = refused.1 p.kind p.label p.zone p.count p.opens
+start_not_refused number behind run line next fault p (inr (inl refused)) =
     section_no_zone line (opening_word line p.kind p.label p.zone p.count p.opens.is) refused.0
-start_not_refused number behind known run line next fault p (inr (inr refused)) =
-    refused.0 (opening_word line p.kind p.label p.zone p.count p.opens.is)
+start_not_refused number behind run line next fault p (inr (inr (inl refused))) =
+    section_no_version line (opening_word line p.kind p.label p.zone p.count p.opens.is) refused.0
+start_not_refused number behind run line next fault p (inr (inr (inr refused))) =
+    refused.0.no_section (opening_word line p.kind p.label p.zone p.count p.opens.is)
 
 name_not_refused : (number behind : ℕ) (run : Run) (line : List ℕ) (next : Above) (fault : ℕ)
-    → OpensZone number run line next → RefusesBeforeScript behind (zone_names_of run.zones) line fault → ⊥
+    → OpensZone number run line next → RefusesBeforeScript behind run line fault → ⊥
 name_not_refused number behind run line next fault p (inl refused) = section_no_zone line refused.0 (zone_word line p.name p.source p.adds.is)
 name_not_refused number behind run line next fault p (inr (inl refused)) = refused.1 p.name p.source p.adds
-name_not_refused number behind run line next fault p (inr (inr refused)) = refused.1 (zone_word line p.name p.source p.adds.is)
+name_not_refused number behind run line next fault p (inr (inr (inl refused))) =
+    zone_no_version line (zone_word line p.name p.source p.adds.is) refused.0
+name_not_refused number behind run line next fault p (inr (inr (inr refused))) = refused.0.no_zone (zone_word line p.name p.source p.adds.is)
 
-script_not_refused : (behind : ℕ) (known : List (List ℕ)) (line : List ℕ) (fault : ℕ) → line ≡ codes "script" → RefusesBeforeScript behind known line fault → ⊥
-script_not_refused behind known line fault is (inl refused) = script_no_section (subst HasSectionWord is refused.0)
-script_not_refused behind known line fault is (inr (inl refused)) = script_no_zone (subst HasZoneWord is refused.0)
-script_not_refused behind known line fault is (inr (inr refused)) = refused.2 is
+begin_not_refused : (number behind : ℕ) (run : Run) (line : List ℕ) (next : Above) (fault : ℕ)
+    → OpensVersion number run line next → RefusesBeforeScript behind run line fault → ⊥
+begin_not_refused number behind run line next fault p (inl refused) = section_no_version line refused.0 (begun_word number run line next p)
+begin_not_refused number behind run line next fault p (inr (inl refused)) = zone_no_version line refused.0 (begun_word number run line next p)
+begin_not_refused number behind run line next fault p (inr (inr (inl refused))) = refused.1 p.from p.begins
+begin_not_refused number behind run line next fault p (inr (inr (inr refused))) = refused.0.no_version (begun_word number run line next p)
 
-not_refused_before_script : (tables : Tables) (number behind : ℕ) (run : Run) (line : List ℕ) (next : Above) (fault : ℕ) → MayStandBelow tables number behind (Sections run) line next → RefusesBeforeScript behind (zone_names_of run.zones) line fault → ⊥
-not_refused_before_script tables number behind run line next fault (inl p) refused = script_not_refused behind (zone_names_of run.zones) line fault p.0 refused
+script_not_refused : (behind : ℕ) (run : Run) (line : List ℕ) (fault : ℕ) → line ≡ codes "script" → RefusesBeforeScript behind run line fault → ⊥
+script_not_refused behind run line fault is (inl refused) = script_no_section (subst HasSectionWord is refused.0)
+script_not_refused behind run line fault is (inr (inl refused)) = script_no_zone (subst HasZoneWord is refused.0)
+script_not_refused behind run line fault is (inr (inr (inl refused))) = script_no_version (subst HasVersionWord is refused.0)
+script_not_refused behind run line fault is (inr (inr (inr refused))) = refused.0.no_script is
+
+not_refused_before_script : (tables : Tables) (number behind : ℕ) (run : Run) (line : List ℕ) (next : Above) (fault : ℕ) → MayStandBelow tables number behind (Sections run) line next → RefusesBeforeScript behind run line fault → ⊥
+not_refused_before_script tables number behind run line next fault (inl p) refused = script_not_refused behind run line fault p.0 refused
 not_refused_before_script tables number behind run line next fault (inr (inl p)) refused = name_not_refused number behind run line next fault p refused
-not_refused_before_script tables number behind run line next fault (inr (inr p)) refused = start_not_refused number behind (zone_names_of run.zones) run line next fault p refused
+not_refused_before_script tables number behind run line next fault (inr (inr (inl p))) refused = start_not_refused number behind run line next fault p refused
+not_refused_before_script tables number behind run line next fault (inr (inr (inr p))) refused = begin_not_refused number behind run line next fault p refused
 
 not_refused_in_script : (run : Run) (line : List ℕ) (next : Above) (fault : ℕ)
     → ((line ≡ codes "end") × (next ≡ End run)) ⊎ AddsCommand run line next → RefusesInScript run line fault → ⊥
@@ -208,16 +261,23 @@ not_refused tables number behind (Script run) line next refusal p refused = not_
 not_refused tables number behind (End run) line next refusal p refused = absurd p
 
 -- what a refused line is refused for
-one_fault_before_script : (behind : ℕ) (known : List (List ℕ)) (line : List ℕ) (f g : ℕ) → RefusesBeforeScript behind known line f → RefusesBeforeScript behind known line g → f ≡ g
-one_fault_before_script behind known line f g (inl p) (inl q) = p.2 ∙ sym q.2
-one_fault_before_script behind known line f g (inl p) (inr (inl q)) = absurd (section_no_zone line p.0 q.0)
-one_fault_before_script behind known line f g (inl p) (inr (inr q)) = absurd (q.0 p.0)
-one_fault_before_script behind known line f g (inr (inl p)) (inl q) = absurd (section_no_zone line q.0 p.0)
-one_fault_before_script behind known line f g (inr (inl p)) (inr (inl q)) = p.2 ∙ sym q.2
-one_fault_before_script behind known line f g (inr (inl p)) (inr (inr q)) = absurd (q.1 p.0)
-one_fault_before_script behind known line f g (inr (inr p)) (inl q) = absurd (p.0 q.0)
-one_fault_before_script behind known line f g (inr (inr p)) (inr (inl q)) = absurd (p.1 q.0)
-one_fault_before_script behind known line f g (inr (inr p)) (inr (inr q)) = p.3 ∙ sym q.3
+one_fault_before_script : (behind : ℕ) (run : Run) (line : List ℕ) (f g : ℕ) → RefusesBeforeScript behind run line f → RefusesBeforeScript behind run line g → f ≡ g
+one_fault_before_script behind run line f g (inl p) (inl q) = p.2 ∙ sym q.2
+one_fault_before_script behind run line f g (inl p) (inr (inl q)) = absurd (section_no_zone line p.0 q.0)
+one_fault_before_script behind run line f g (inl p) (inr (inr (inl q))) = absurd (section_no_version line p.0 q.0)
+one_fault_before_script behind run line f g (inl p) (inr (inr (inr q))) = absurd (q.0.no_section p.0)
+one_fault_before_script behind run line f g (inr (inl p)) (inl q) = absurd (section_no_zone line q.0 p.0)
+one_fault_before_script behind run line f g (inr (inl p)) (inr (inl q)) = p.2 ∙ sym q.2
+one_fault_before_script behind run line f g (inr (inl p)) (inr (inr (inl q))) = absurd (zone_no_version line p.0 q.0)
+one_fault_before_script behind run line f g (inr (inl p)) (inr (inr (inr q))) = absurd (q.0.no_zone p.0)
+one_fault_before_script behind run line f g (inr (inr (inl p))) (inl q) = absurd (section_no_version line q.0 p.0)
+one_fault_before_script behind run line f g (inr (inr (inl p))) (inr (inl q)) = absurd (zone_no_version line q.0 p.0)
+one_fault_before_script behind run line f g (inr (inr (inl p))) (inr (inr (inl q))) = p.2 ∙ sym q.2
+one_fault_before_script behind run line f g (inr (inr (inl p))) (inr (inr (inr q))) = absurd (q.0.no_version p.0)
+one_fault_before_script behind run line f g (inr (inr (inr p))) (inl q) = absurd (p.0.no_section q.0)
+one_fault_before_script behind run line f g (inr (inr (inr p))) (inr (inl q)) = absurd (p.0.no_zone q.0)
+one_fault_before_script behind run line f g (inr (inr (inr p))) (inr (inr (inl q))) = absurd (p.0.no_version q.0)
+one_fault_before_script behind run line f g (inr (inr (inr p))) (inr (inr (inr q))) = p.1 ∙ sym q.1
 
 one_fault_in_script : (run : Run) (line : List ℕ) (f g : ℕ) → RefusesInScript run line f → RefusesInScript run line g → f ≡ g
 one_fault_in_script run line f g p q = p.2 ∙ sym q.2
@@ -231,7 +291,7 @@ one_fault tables number behind Nothing line a b p q = one_of_line number a b (p.
 one_fault tables number behind Version line a b p q = one_of_line number a b (p.1 ∙ sym q.1) p.2 q.2
 one_fault tables number behind (Replicas members) line a b p q = one_of_line number a b (p.1 ∙ sym q.1) p.2 q.2
 one_fault tables number behind (Times members window) line a b p q = one_of_line number a b (p.1 ∙ sym q.1) p.2 q.2
-one_fault tables number behind (Sections run) line a b p q = one_of_line number a b (one_fault_before_script behind (zone_names_of run.zones) line a.cause b.cause p.0 q.0) p.1 q.1
+one_fault tables number behind (Sections run) line a b p q = one_of_line number a b (one_fault_before_script behind run line a.cause b.cause p.0 q.0) p.1 q.1
 one_fault tables number behind (Table run section left) line a b p q = one_break tables (style_of section.kind) number section left line a b p q
 one_fault tables number behind (Script run) line a b p q = one_of_line number a b (one_fault_in_script run line a.cause b.cause p.0 q.0) p.1 q.1
 one_fault tables number behind (End run) line a b p q = one_of_line number a b (p.0 ∙ sym q.0) p.1 q.1

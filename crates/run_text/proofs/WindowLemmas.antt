@@ -1,5 +1,5 @@
 -- The line of a run file that holds the window.
-use Rattle.std.proofs.Common.{◌≡◌, ◌≢◌, ℕ, ◌+◌, List, ◌∷◌, ◌++◌, ℤ, refl, ap, ◌∙◌, sym, subst, arith, append_assoc, codes}
+use Rattle.std.proofs.Common.{◌≡◌, ◌≢◌, ℕ, List, ◌∷◌, ◌++◌, ℤ, refl, ap, ◌∙◌, sym, subst, arith, append_assoc, codes}
 use Rattle.std.proofs.Common.{Bor, Some}
 use Rattle.std.specs.Str.Pattern.{FindsTextPrefix, StripsPrefix}
 use Rattle.std.proofs.lemmas.Int.{ints}

@@ -3,6 +3,7 @@ use Rattle.std.specs.Prelude.{◌≡◌, ◌≢◌, ◌⊎◌, ℕ, zero, suc, �
 use Rattle.anacron_text.specs.LogicalLines.{joined}
 use Rattle.anacron_text.specs.Settings.{no_settings}
 use Rattle.zone_minutes.specs.Zone.{Source}
+use Rattle.zone_minutes.specs.declared.minute.Minute.{Minute}
 use Rattle.zone_minutes.specs.declared.minute.Window.{Window}
 use Rattle.crontab_text.specs.Answers.{IsLineFault}
 use Rattle.crontab_text.specs.declared.answer.Style.{Style}
@@ -12,8 +13,9 @@ use Rattle.script_text.specs.Script.{IsScriptWithinLimits}
 use Rattle.script_text.specs.declared.command.Command.{Command}
 use Rattle.run_text.specs.Grammar.{IsReplicasLine, IsWindowLine, IsGraceLine, IsSectionLine, HasSectionWord}
 use Rattle.run_text.specs.Anacrontab.{SayAll, IsFirstBreak}
-use Rattle.run_text.specs.Run.{Section, Run, run_with, opened, with_line, with_section, with_zone, with_command}
+use Rattle.run_text.specs.Run.{Section, Run, run_with, opened, with_line, with_section, with_version, with_zone, with_command}
 use Rattle.run_text.specs.Table.{Says}
+use Rattle.run_text.specs.Versions.{HasVersionWord, BeginsVersion, BeginsNone}
 use Rattle.run_text.specs.Zones.{AddsZone, AddsNone, HasZoneWord, zone_names_of}
 use Rattle.run_text.specs.declared.refusal.Refusal.{Refusal}
 use Rattle.run_text.specs.declared.table.Tables.{Tables}
@@ -21,7 +23,7 @@ use Rattle.run_text.specs.declared.run.SectionKind.{SectionKind}
 use Rattle.run_text.specs.declared.run.SectionKind.TheVariants.{User, System, Anacron}
 use Rattle.run_text.specs.declared.table.Tables.TheVariants.{Judged, Counted}
 use Rattle.cron_fields.specs.Cause.{cause_number}
-use Rattle.cron_fields.specs.declared.cause.Cause.TheVariants.{BadHeader, BadReplicas, BadWindow, BadGrace, BadSection, BadScript, MissingLine, BadZoneLine}
+use Rattle.cron_fields.specs.declared.cause.Cause.TheVariants.{BadHeader, BadReplicas, BadWindow, BadGrace, BadSection, BadScript, MissingLine, BadZoneLine, BadVersion}
 
 -- what the lines above a line of a run file were
 pub data Above : Type 0 where
@@ -33,7 +35,7 @@ pub data Above : Type 0 where
   Replicas : (members : ℕ) → Above
   -- the window
   Times : (members : ℕ) → (window : Window) → Above
-  -- the head, zones, and whole sections
+  -- the head, zones, whole sections, and versions
   Sections : (run : Run) → Above
   -- and a section's first lines, of which so many are left behind the next one
   Table : (run : Run) → (section : Section) → (left : ℕ) → Above
@@ -87,6 +89,12 @@ pub record OpensZone (number : ℕ) (run : Run) (line : List ℕ) (next : Above)
   pub adds : AddsZone (zone_names_of run.zones) line name source
   pub next_is : next ≡ Sections (with_zone run (record { line = number; name = name; source = source }))
 
+-- the line begins a version, and what stands above the next line then
+pub record OpensVersion (number : ℕ) (run : Run) (line : List ℕ) (next : Above) : Type 0 where
+  pub from : Minute
+  pub begins : BeginsVersion run line from
+  pub next_is : next ≡ Sections (with_version run number from)
+
 -- the line says a command more, within the limits of a script
 pub record SaysCommand (run : Run) (line : List ℕ) (command : Command) : Type 0 where
   pub is : IsCommandLine line run.members run.window command
@@ -106,7 +114,8 @@ MayStandBelow tables number behind (Replicas members) line next = (window : Wind
 MayStandBelow tables number behind (Times members window) line next =
     (grace : ℕ) × IsGraceLine line grace × (next ≡ Sections (run_with members window grace))
 MayStandBelow tables number behind (Sections run) line next =
-    ((line ≡ codes "script") × (next ≡ Script run)) ⊎ (OpensZone number run line next ⊎ StartsSection number behind run line next)
+    ((line ≡ codes "script") × (next ≡ Script run))
+    ⊎ (OpensZone number run line next ⊎ (StartsSection number behind run line next ⊎ OpensVersion number run line next))
 MayStandBelow tables number behind (Table run section left) line next =
     MayStandIn tables (style_of section.kind) section left line × (next ≡ inside run (with_line section line) left)
 MayStandBelow tables number behind (Script run) line next = ((line ≡ codes "end") × (next ≡ End run)) ⊎ AddsCommand run line next
@@ -116,13 +125,21 @@ MayStandBelow tables number behind (End run) line next = ⊥
 abbrev pub IsOfLine : (number : ℕ) → Refusal → Type 0
 IsOfLine number refusal = (refusal.line ≡ number) × (refusal.place ≡ 0)
 
--- Before the script, below lines that gave these zones' names: the line opens no section, names no zone, or is none that may
--- stand there at all.
-abbrev pub RefusesBeforeScript : (behind : ℕ) → (known : List (List ℕ)) → List ℕ → (cause : ℕ) → Type 0
-RefusesBeforeScript behind known line cause =
+-- The line may not stand before the script at all.
+pub record IsNoLine (line : List ℕ) : Type 0 where
+  pub no_section : HasSectionWord line → ⊥
+  pub no_zone : HasZoneWord line → ⊥
+  pub no_version : HasVersionWord line → ⊥
+  pub no_script : line ≢ codes "script"
+
+-- Before the script, below lines that gave this run: the line opens no section, names no zone, begins no version, or is none that
+-- may stand there at all.
+abbrev pub RefusesBeforeScript : (behind : ℕ) → Run → List ℕ → (cause : ℕ) → Type 0
+RefusesBeforeScript behind run line cause =
     (HasSectionWord line × OpensNone behind line × (cause ≡ cause_number BadSection))
-    ⊎ ((HasZoneWord line × AddsNone known line × (cause ≡ cause_number BadZoneLine))
-    ⊎ ((HasSectionWord line → ⊥) × (HasZoneWord line → ⊥) × (line ≢ codes "script") × (cause ≡ cause_number MissingLine)))
+    ⊎ ((HasZoneWord line × AddsNone (zone_names_of run.zones) line × (cause ≡ cause_number BadZoneLine))
+    ⊎ ((HasVersionWord line × BeginsNone run line × (cause ≡ cause_number BadVersion))
+    ⊎ (IsNoLine line × (cause ≡ cause_number MissingLine))))
 
 -- in the script: the line is none that may stand there
 abbrev pub RefusesInScript : Run → List ℕ → (cause : ℕ) → Type 0
@@ -149,7 +166,7 @@ Refuses tables number behind (Replicas members) line refusal =
     ((window : Window) → IsWindowLine line window → ⊥) × (refusal.cause ≡ cause_number BadWindow) × IsOfLine number refusal
 Refuses tables number behind (Times members window) line refusal =
     ((grace : ℕ) → IsGraceLine line grace → ⊥) × (refusal.cause ≡ cause_number BadGrace) × IsOfLine number refusal
-Refuses tables number behind (Sections run) line refusal = RefusesBeforeScript behind (zone_names_of run.zones) line refusal.cause × IsOfLine number refusal
+Refuses tables number behind (Sections run) line refusal = RefusesBeforeScript behind run line refusal.cause × IsOfLine number refusal
 Refuses tables number behind (Table run section left) line refusal = RefusesInTable tables (style_of section.kind) number section left line refusal
 Refuses tables number behind (Script run) line refusal = RefusesInScript run line refusal.cause × IsOfLine number refusal
 Refuses tables number behind (End run) line refusal = (refusal.cause ≡ cause_number BadScript) × IsOfLine number refusal

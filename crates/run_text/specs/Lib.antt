@@ -6,4 +6,5 @@ pub mod Run
 pub mod Sound
 pub mod Steps
 pub mod Table
+pub mod Versions
 pub mod Zones

@@ -1,9 +1,11 @@
--- A run: how many replicas there are, a window of time, the zones under their names, the tables of jobs, and a script.
+-- A run: how many replicas there are, a window of time, the zones under their names, the tables of jobs with their versions, and
+-- a script.
 -- Source: docs/RUN_FILE.md; hexadecimal digits by `hex`.
-use Rattle.std.specs.Prelude.{ℕ, List, ◌++◌, ◌∷◌, [], map, Result, Ok, Err}
+use Rattle.std.specs.Prelude.{ℕ, List, ◌++◌, ◌∷◌, [], length, map, Result, Ok, Err}
 use Rattle.hex.specs.Hex.{decode_of}
 use Rattle.hex.specs.declared.error.FromHexError.{FromHexError}
 use Rattle.zone_minutes.specs.Zone.{Source, FixedOffset, PosixRule, TzifFile}
+use Rattle.zone_minutes.specs.declared.minute.Minute.{Minute}
 use Rattle.zone_minutes.specs.declared.minute.Window.{Window}
 use Rattle.crontab_text.specs.Lines.{lines_of}
 use Rattle.script_text.specs.declared.command.Command.{Command}
@@ -13,6 +15,7 @@ use Rattle.run_text.specs.declared.run.ZoneText.{ZoneText}
 use Rattle.run_text.specs.declared.run.ZoneText.TheVariants.{Fixed, Posix, Hex}
 use Rattle.run_text.specs.declared.run.ZoneLine.{ZoneLine}
 use Rattle.run_text.specs.declared.run.RunFile.{RunFile}
+use Rattle.run_text.specs.declared.run.VersionLine.{VersionLine}
 
 -- a table of jobs: where it begins in the run file, what it is, under which label and in which zone, and its lines
 pub record Section : Type 0 where
@@ -35,11 +38,13 @@ pub record Run : Type 0 where
   pub grace : ℕ
   pub zones : List NamedZone
   pub sections : List Section
+  pub versions : List VersionLine
   pub commands : List Command
 
 -- a run of no job and no command
 abbrev pub run_with : ℕ → Window → ℕ → Run
-run_with members window grace = record { members = members; window = window; grace = grace; zones = []; sections = []; commands = [] }
+run_with members window grace =
+    record { members = members; window = window; grace = grace; zones = []; sections = []; versions = []; commands = [] }
 
 -- the section with more lines at its end
 abbrev pub with_lines : Section → List (List ℕ) → Section
@@ -69,9 +74,17 @@ with_zones run zones = record run { zones = run.zones ++ zones }
 abbrev pub with_zone : Run → NamedZone → Run
 with_zone run zone = with_zones run (zone ∷ [])
 
--- the run with more zones and more sections
-abbrev pub with_parts : Run → List NamedZone → List Section → Run
-with_parts run zones sections = with_sections (with_zones run zones) sections
+-- the run with more versions at its end
+abbrev pub with_versions : Run → List VersionLine → Run
+with_versions run versions = record run { versions = run.versions ++ versions }
+
+-- the run with a version more, which begins at that line, behind its sections
+abbrev pub with_version : Run → (line : ℕ) → Minute → Run
+with_version run line from = with_versions run (record { line = line; from = from; first_section = length run.sections } ∷ [])
+
+-- the run with more zones, more sections and more versions
+abbrev pub with_parts : Run → List NamedZone → List Section → List VersionLine → Run
+with_parts run zones sections versions = with_versions (with_sections (with_zones run zones) sections) versions
 
 -- the run with more commands at the end of its script
 abbrev pub with_commands : Run → List Command → Run
@@ -109,5 +122,6 @@ run_of run = record {
   grace = run.grace;
   zones = map zone_of run.zones.items;
   sections = map section_of run.sections.items;
+  versions = run.versions.items;
   commands = run.commands.items;
 }

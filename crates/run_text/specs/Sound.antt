@@ -1,7 +1,7 @@
 -- What holds of each run that is read. Source: docs/RUN_FILE.md.
-use Rattle.std.specs.Prelude.{◌≢◌, ℕ, ◌+◌, ◌<◌, ◌≤◌, List, [], ◌∷◌, length, codes, ⊤}
+use Rattle.std.specs.Prelude.{◌≢◌, ℕ, ◌+◌, ◌<◌, ◌≤◌, ◌≤ℤ◌, List, [], ◌∷◌, length, codes, All, AllPairs, ⊤}
 use Rattle.std.specs.List.{AllByRecursion}
-use Rattle.zone_minutes.specs.Window.{IsWithinLimits}
+use Rattle.zone_minutes.specs.Window.{IsInWindow, IsWithinLimits}
 use Rattle.zone_minutes.specs.Zone.{Source, FixedOffset, PosixRule, TzifFile, IsOffsetMinutes}
 use Rattle.script_text.specs.Command.{IsInRange}
 use Rattle.script_text.specs.Script.{IsScriptWithinLimits}
@@ -10,6 +10,7 @@ use Rattle.run_text.specs.Grammar.{IsZoneName}
 use Rattle.run_text.specs.Run.{NamedZone, Section, Run}
 use Rattle.run_text.specs.Table.{AreSaid}
 use Rattle.run_text.specs.Zones.{zone_names_of}
+use Rattle.run_text.specs.declared.run.VersionLine.{VersionLine}
 
 -- each line of the section says something, and its last line has a number below this one
 pub record IsSoundSection (next : ℕ) (section : Section) : Type 0 where
@@ -39,6 +40,19 @@ pub record AreSoundZones (zones : List NamedZone) : Type 0 where
   pub each : AllByRecursion IsSoundZone zones
   pub distinct : AreDistinct (zone_names_of zones)
 
+-- the version comes no later than the other, by its instant and by the sections above it
+pub record IsNotLater (a b : VersionLine) : Type 0 where
+  pub by_instant : a.from.0 ≤ℤ b.from.0
+  pub by_sections : a.first_section ≤ b.first_section
+
+-- there are 7 versions at most after the first: each comes within the window and behind some of the sections, and none comes before
+-- an earlier one
+pub record AreVersionLines (run : Run) : Type 0 where
+  pub few : length run.versions ≤ 7
+  pub inside : All (λ (version : VersionLine). IsInWindow run.window version.from.0) run.versions
+  pub within : All (λ (version : VersionLine). version.first_section ≤ length run.sections) run.versions
+  pub in_order : AllPairs IsNotLater run.versions
+
 -- each command of the script names what the run has, and the script is within its limits
 pub record IsSoundScript (run : Run) : Type 0 where
   pub in_range : AllByRecursion (IsInRange run.members run.window) run.commands
@@ -49,11 +63,12 @@ pub record AreSoundReplicas (members : ℕ) : Type 0 where
   pub some : 1 ≤ members
   pub few : members ≤ 7
 
--- the run's replicas, window and grace are within the limits, and so are its zones, its sections and its script
+-- the run's replicas, window and grace are within the limits, and so are its zones, its sections, its versions and its script
 pub record IsSoundRun (next : ℕ) (run : Run) : Type 0 where
   pub replicas : AreSoundReplicas run.members
   pub limits : IsWithinLimits run.window
   pub grace : run.grace ≤ 525_600
   pub zones : AreSoundZones run.zones
   pub sections : AllByRecursion (IsSoundSection next) run.sections
+  pub versions : AreVersionLines run
   pub script : IsSoundScript run

@@ -1,5 +1,5 @@
 -- Where a reader stands in a run file, and what it comes to from there. Private functions alone cite it.
-use Rattle.std.specs.Prelude.{◌≡◌, ◌⊎◌, ℕ, ◌+◌, ◌<◌, ◌≤◌, ◌^◌, List, [], ◌∷◌, ◌++◌, length, map, ⊤}
+use Rattle.std.specs.Prelude.{◌≡◌, ◌⊎◌, ℕ, suc, ◌≤ℤ◌, ◌<ℤ◌, ◌+◌, ◌<◌, ◌≤◌, ◌^◌, List, [], ◌∷◌, ◌++◌, length, map, ⊤}
 use Rattle.std.specs.Borrow.{Bor}
 use Rattle.crontab_text.specs.Lines.{lines_of}
 use Rattle.script_text.specs.Script.{IsLeftBy}
@@ -7,12 +7,16 @@ use Rattle.script_text.specs.declared.command.Command.{Command}
 use Rattle.script_text.specs.declared.limits.Limits.{Limits}
 use Rattle.run_text.specs.Follow.{Above, Nothing, Sections, Script, IsOfLine, inside}
 use Rattle.run_text.specs.Reading.{ReadsFrom, RefusesFrom, HasDigits}
-use Rattle.run_text.specs.Run.{NamedZone, Run, section_of, zone_of, opened, with_section, with_zone, with_parts, with_command}
+use Rattle.run_text.specs.Run.{NamedZone, Run, section_of, zone_of, opened, with_section, with_version, with_zone, with_parts, with_command}
+use Rattle.run_text.specs.Versions.{last_from}
 use Rattle.run_text.specs.Zones.{zone_names_of}
+use Rattle.zone_minutes.specs.declared.minute.Minute.{Minute}
+use Rattle.zone_minutes.specs.declared.minute.Window.{Window}
 use Rattle.run_text.specs.declared.head.Head.{Head}
 use Rattle.run_text.specs.declared.opening.Opening.{Opening}
+use Rattle.run_text.specs.declared.part.Known.{Known}
 use Rattle.run_text.specs.declared.part.Part.{Part}
-use Rattle.run_text.specs.declared.part.Part.TheVariants.{Zone as ZonePart, Section as SectionPart}
+use Rattle.run_text.specs.declared.part.Part.TheVariants.{Zone as ZonePart, Section as SectionPart, Version as VersionPart}
 use Rattle.run_text.specs.declared.parts.Parts.{Parts}
 use Rattle.run_text.specs.declared.reader.Reader.{Reader}
 use Rattle.run_text.specs.declared.refusal.Refusal.{Refusal}
@@ -88,34 +92,56 @@ texts_of_names names = map (λ name. name.now) names
 abbrev pub HasNames : List (Bor (List ℕ)) → List NamedZone → Type 0
 HasNames names zones = zone_names_of zones ≡ texts_of_names names
 
+-- what is known of the run so far
+pub record IsKnown (known : Known) (run : Run) : Type 0 where
+  pub names : HasNames known.names.items run.zones
+  pub window : run.window ≡ known.window
+  pub versions : suc (length run.versions) ≡ known.next
+  pub last : last_from run.window.from.0 run.versions ≡ known.from.0
+
+-- the version of that number comes next, from that instant on
+pub record IsNextVersion (known : Known) (version : ℕ) (from : Minute) : Type 0 where
+  pub number : version ≡ known.next
+  pub in_order : known.from.0 ≤ℤ from.0
+  pub inside : from.0 <ℤ known.window.until.0
+
 -- the run with a part more
 abbrev pub with_part : Run → Part → Run
 with_part run (ZonePart zone) = with_zone run (zone_of zone)
 with_part run (SectionPart section) = with_section run (section_of section)
+with_part run (VersionPart line from) = with_version run line from
 
--- the names with that of a part, if it has one
-abbrev pub names_with : List (Bor (List ℕ)) → Part → List (Bor (List ℕ))
-names_with names (ZonePart zone) = names ++ zone.name ∷ []
-names_with names (SectionPart section) = names
+-- the reader passed a part, below lines of which this was known, and this is known then
+pub record PassesPart (tables : Tables) (old new : Reader) (before after : Known) (part : Part) : Type 0 where
+  pub leads : (run : Run) → IsKnown before run → CarriesBack tables (place_of old (Sections run)) (place_of new (Sections (with_part run part)))
+  pub keeps : (run : Run) → IsKnown before run → IsKnown after (with_part run part)
 
--- the reader passed a part, below zones of these names, and keeps the names
-pub record PassesPart (tables : Tables) (old new : Reader) (before after : List (Bor (List ℕ))) (part : Part) : Type 0 where
-  pub leads : (run : Run) → HasNames before run.zones → CarriesBack tables (place_of old (Sections run)) (place_of new (Sections (with_part run part)))
-  pub names : after ≡ names_with before part
+-- the run has this window, and no zone, no section and no version so far
+pub record HasNoPart (given : Window) (run : Run) : Type 0 where
+  pub window : run.window ≡ given
+  pub zones : run.zones ≡ []
+  pub sections : run.sections ≡ []
+  pub versions : run.versions ≡ []
 
 -- the digits of a zone stand for some bytes, and the text of a section isn't longer than that
 abbrev pub FitsInFile : ℕ → Part → Type 0
 FitsInFile size (ZonePart zone) = HasDigits zone
 FitsInFile size (SectionPart section) = length section.text.now ≤ size
+FitsInFile size (VersionPart line from) = ⊤
 
 -- the parts with this one more
 abbrev pub AddsPart : Parts → Parts → Part → Type 0
-AddsPart old new (ZonePart zone) = (new.zones.items ≡ old.zones.items ++ zone ∷ []) × (new.sections.items ≡ old.sections.items)
-AddsPart old new (SectionPart section) = (new.zones.items ≡ old.zones.items) × (new.sections.items ≡ old.sections.items ++ section ∷ [])
+AddsPart old new (ZonePart zone) =
+    (new.zones.items ≡ old.zones.items ++ zone ∷ []) × (new.sections.items ≡ old.sections.items) × (new.versions.items ≡ old.versions.items)
+AddsPart old new (SectionPart section) =
+    (new.zones.items ≡ old.zones.items) × (new.sections.items ≡ old.sections.items ++ section ∷ []) × (new.versions.items ≡ old.versions.items)
+AddsPart old new (VersionPart line from) =
+    (new.zones.items ≡ old.zones.items) × (new.sections.items ≡ old.sections.items)
+    × (new.versions.items ≡ old.versions.items ++ record { line = line; from = from; first_section = length old.sections.items } ∷ [])
 
 -- the run with all these parts
 abbrev pub with_all : Run → Parts → Run
-with_all run parts = with_parts run (map zone_of parts.zones.items) (map section_of parts.sections.items)
+with_all run parts = with_parts run (map zone_of parts.zones.items) (map section_of parts.sections.items) parts.versions.items
 
 -- the run has this head, and no command so far
 pub record BeginsScript (head : Head) (run : Run) : Type 0 where

@@ -1,5 +1,5 @@
-//! What a run file says. `read_run` reads a text as a run file with its head, its zones, its sections and its
-//! script, each line after those above it (`IsRunText`), or refuses it at the first line that may not stand there,
+//! What a run file says. `read_run` reads a text as a run file with its head, its zones, its sections, their versions
+//! and its script, each line after those above it (`IsRunText`), or refuses it at the first line that may not stand there,
 //! with the cause and the place of the byte (`IsRefusedText`); if the file ends too early, at the line that is
 //! missing (`Misses`). Each text has a reading (`a_text_has_a_reading`), and never two (`a_text_has_one_reading`),
 //! and each run that is read keeps its limits: each command is in range, and the script within its limits
@@ -22,6 +22,7 @@ mod refusal;
 mod run;
 mod script;
 mod table;
+mod version;
 mod words;
 mod zone;
 
@@ -32,5 +33,5 @@ pub use laws::{
 };
 pub use read::{read_frame, read_run};
 pub use refusal::{Refusal, RunFault};
-pub use run::{RunFile, Section, SectionKind, ZoneLine, ZoneText};
+pub use run::{RunFile, Section, SectionKind, VersionLine, ZoneLine, ZoneText};
 pub use script_text::{Command, FateWord};

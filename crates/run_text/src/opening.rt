@@ -3,6 +3,8 @@ ghost use Rattle.std.specs.Prelude.{◌≡◌, ◌≢◌, ℕ, List, codes, IfSo
 ghost use Rattle.cron_fields.specs.Cause.{cause_number};
 ghost use Rattle.run_text.specs.Follow.{OpensNone, RefusesBeforeScript, IsOfLine};
 ghost use Rattle.run_text.specs.Grammar.{IsSectionLine};
+ghost use Rattle.run_text.specs.Run.{Run};
+ghost use Rattle.run_text.specs.Versions.{HasVersionWord};
 ghost use Rattle.run_text.specs.Zones.{HasZoneWord};
 ghost use Rattle.run_text.specs.declared.run.SectionKind.{SectionKind};
 
@@ -25,12 +27,12 @@ pub struct Opening<'a> {
     pub count: u32,
 }
 
-/// Reads the line of that number, which opens neither a zone nor the script, as one that opens a section.
+/// Reads the line of that number, which opens neither a zone, nor a version, nor the script, as one that opens a section.
 pub fn read_opening(number: u32, line: &str) -> Result<Opening<'_>, Refusal>
     ensures read { IfOk result (λ opening. IsSectionLine line.now opening.kind opening.label.now opening.zone.now opening.count) }
     ensures line { IfErr result (IsOfLine number) }
-    ensures refused { IfErr result (λ refusal. (behind : ℕ) (known : List (List ℕ)) → (HasZoneWord line.now → ⊥) → line.now ≢ codes "script"
-        → RefusesBeforeScript behind known line.now refusal.cause) }
+    ensures refused { IfErr result (λ refusal. (behind : ℕ) (run : Run) → (HasZoneWord line.now → ⊥) → (HasVersionWord line.now → ⊥)
+        → line.now ≢ codes "script" → RefusesBeforeScript behind run line.now refusal.cause) }
 {
     match opening_of(line) {
         Some(opening) => Ok(opening),
@@ -38,10 +40,10 @@ pub fn read_opening(number: u32, line: &str) -> Result<Opening<'_>, Refusal>
     }
 }
 
-// The cause of a line that opens neither a zone, nor a section, nor the script.
+// The cause of a line that opens neither a zone, nor a section, nor a version, nor the script.
 fn cause_of(line: &str) -> Cause
-    ensures { (behind : ℕ) (known : List (List ℕ)) → OpensNone behind line.now → (HasZoneWord line.now → ⊥) → line.now ≢ codes "script"
-        → RefusesBeforeScript behind known line.now (cause_number result) }
+    ensures { (behind : ℕ) (run : Run) → OpensNone behind line.now → (HasZoneWord line.now → ⊥) → (HasVersionWord line.now → ⊥)
+        → line.now ≢ codes "script" → RefusesBeforeScript behind run line.now (cause_number result) }
 {
     if has_section_word(line) {
         Cause::BadSection

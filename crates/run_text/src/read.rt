@@ -13,7 +13,7 @@ use crate::script::{pass_script, read_script};
 use crate::table::Tables;
 use std::alloc::Global;
 
-/// Reads a run file: a head of four lines, zones and tables of jobs, and a script. The texts of the run are
+/// Reads a run file: a head of four lines, zones and tables of jobs in their versions, and a script. The texts of the run are
 /// parts of the file's text.
 ///
 /// # Errors
@@ -54,7 +54,7 @@ fn read_file(alloc: Global, text: &str, tables: Tables) -> Result<RunFile<'_>, R
     ensures refused { IfErr result (λ fault. IfRefused fault (RefusedFrom tables (start text.now))) }
 {
     let (head, mut reader) = read_head(text)?;
-    let parts = read_parts(alloc, &mut reader, tables)?;
+    let parts = read_parts(alloc, &mut reader, head.window, tables)?;
     let commands = read_script(alloc, &mut reader, head)?;
     Ok(RunFile {
         members: head.members,
@@ -62,6 +62,7 @@ fn read_file(alloc: Global, text: &str, tables: Tables) -> Result<RunFile<'_>, R
         grace: head.grace,
         zones: parts.zones,
         sections: parts.sections,
+        versions: parts.versions,
         commands,
     })
 }
@@ -73,6 +74,6 @@ pub fn pass_file(text: &str, tables: Tables) -> Result<(), Refusal>
     ensures refused { IfErr result (RefusedFrom tables (start text.now)) }
 {
     let (head, mut reader) = read_head(text)?;
-    pass_parts(&mut reader, tables)?;
+    pass_parts(&mut reader, head.window, tables)?;
     pass_script(&mut reader, head)
 }

@@ -1,6 +1,6 @@
 use crontab_text::Style;
 use script_text::Command;
-use zone_minutes::Window;
+use zone_minutes::{Minute, Window};
 
 /// What the lines of a section are.
 #[derive(Clone, Copy, Debug, PartialEq, Eq)]
@@ -63,6 +63,17 @@ pub struct ZoneLine<'a> {
     pub source: ZoneText<'a>,
 }
 
+/// A line that begins a further version of the tables: the sections below it are that version's, up to the next such line.
+#[derive(Clone, Copy, Debug, PartialEq, Eq)]
+pub struct VersionLine {
+    /// The number of its line, from 1.
+    pub line: u32,
+    /// From this instant on, which is in the window, the version may be in force.
+    pub from: Minute,
+    /// How many sections stand above the line.
+    pub first_section: u32,
+}
+
 /// What a run file says, or its frame, if it was read by `read_frame`. Its texts are parts of the file's text.
 #[derive(Debug, Drop)]
 pub struct RunFile<'a> {
@@ -73,7 +84,10 @@ pub struct RunFile<'a> {
     pub grace: u32,
     /// The zones that its sections and its tables may name, beside `UTC`.
     pub zones: Vec<ZoneLine<'a>>,
+    /// The tables of all versions, in the order of the lines.
     pub sections: Vec<Section<'a>>,
+    /// The versions of the tables after the first, of which there are 7 at most. None comes before an earlier one.
+    pub versions: Vec<VersionLine>,
     /// The commands of its script.
     pub commands: Vec<Command>,
 }

@@ -1,6 +1,7 @@
 //! The words of the product's own lines.
 ghost use Rattle.std.specs.Prelude.{◌≡◌, ◌≢◌, ◌↔◌, IsTrue, IfSome, IfNone};
 ghost use Rattle.run_text.specs.Grammar.{IsLabelStart, IsLabelByte, IsLabel, IsZoneByte, IsZoneName, first_word, section_word, HasSectionWord};
+ghost use Rattle.run_text.specs.Versions.{HasVersionWord};
 ghost use Rattle.run_text.specs.Zones.{HasZoneWord};
 ghost use Rattle.run_text.specs.declared.run.SectionKind.{SectionKind};
 
@@ -81,4 +82,11 @@ pub fn has_zone_word(line: &str) -> bool
     ensures { IsTrue result ↔ HasZoneWord line.now }
 {
     first_word(line) == "zone"
+}
+
+/// Whether the line's first word is that of a version's line.
+pub fn has_version_word(line: &str) -> bool
+    ensures { IsTrue result ↔ HasVersionWord line.now }
+{
+    first_word(line) == "version"
 }

@@ -5,9 +5,10 @@ use crate::anacron_runs::{
 };
 use crate::play::{Faults, NO_FAULTS, play, show};
 use crate::runs::{
-    CHOICE, CHOICE_JOBS, CUT, DAY_RULE, DAY_RULE_REPORT, FOREIGN_ZONE, NEVER, NEVER_REPORT,
-    NO_SECTION, NO_SECTION_REPORT, NOT_TEXT, ONE_LABEL, SYSTEM, SYSTEM_JOBS, THREE_LAUNCHES,
-    THREE_LAUNCHES_REPORT, ZERO_BYTE, ZONE_LINE, ZONE_RULE,
+    CHOICE, CHOICE_JOBS, CUT, DAY_RULE, DAY_RULE_REPORT, FOREIGN_ZONE, LATE_VERSION,
+    LATE_VERSION_REPORT, NEVER, NEVER_REPORT, NO_SECTION, NO_SECTION_REPORT, NOT_TEXT, ONE_LABEL,
+    RENAMED_JOB, RENAMED_JOB_REPORT, SYSTEM, SYSTEM_JOBS, THREE_LAUNCHES, THREE_LAUNCHES_REPORT,
+    TWO_VERSIONS, TWO_VERSIONS_REPORT, VERSION_LEFT_OUT, ZERO_BYTE, ZONE_LINE, ZONE_RULE,
 };
 use std::test::Fail;
 
@@ -53,6 +54,18 @@ const REPORTED: &[Reported] = &[
     Reported {
         input: WITH_THE_FIRST_MINUTE,
         report: WITH_THE_FIRST_MINUTE_JOBS,
+    },
+    Reported {
+        input: TWO_VERSIONS,
+        report: TWO_VERSIONS_REPORT,
+    },
+    Reported {
+        input: LATE_VERSION,
+        report: LATE_VERSION_REPORT,
+    },
+    Reported {
+        input: RENAMED_JOB,
+        report: RENAMED_JOB_REPORT,
     },
 ];
 
@@ -105,6 +118,10 @@ const REFUSED: &[Refused] = &[
     Refused {
         input: SLASH,
         shown: "2\ncron_cluster: line 7: cause 18 at 4\n",
+    },
+    Refused {
+        input: VERSION_LEFT_OUT,
+        shown: "2\ncron_cluster: line 7: cause 36 at 0\n",
     },
     Refused {
         input: HOURS,

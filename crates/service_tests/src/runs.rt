@@ -21,6 +21,91 @@ launch alice:1@20240331T0040Z
 end
 ";
 
+// Another version of the table from half past on.
+pub const TWO_VERSIONS: &str = "cronrun 1
+replicas 1
+window 2024-03-31T00:00Z 2024-03-31T01:00Z
+grace 0
+crontab alice UTC 1
+0,20,40 * * * * echo hi
+version 1 2024-03-31T00:30Z
+crontab alice UTC 1
+10,50 * * * * echo hi
+script
+end
+";
+
+pub const TWO_VERSIONS_REPORT: &str = "cron report 1
+window 2024-03-31T00:00Z 2024-03-31T01:00Z
+replicas 1
+jobs 1
+job alice:1 launched 3 void 0
+launch alice:1@20240331T0000Z
+launch alice:1@20240331T0020Z
+launch alice:1@20240331T0050Z
+end
+";
+
+// Nobody leads until a quarter to one, so the first version holds until then.
+pub const LATE_VERSION: &str = "cronrun 1
+replicas 1
+window 2024-03-31T00:00Z 2024-03-31T01:00Z
+grace 0
+crontab alice UTC 1
+0,20,40 * * * * echo hi
+version 1 2024-03-31T00:30Z
+crontab alice UTC 1
+10,50 * * * * echo hi
+script
+round 2024-03-31T00:45Z 1
+end
+";
+
+pub const LATE_VERSION_REPORT: &str = "job alice:1 launched 1 void 3
+void alice:1@20240331T0000Z
+void alice:1@20240331T0020Z
+void alice:1@20240331T0040Z
+launch alice:1@20240331T0050Z
+end
+";
+
+// Another job from an instant on at which both are due: the first one has it.
+pub const RENAMED_JOB: &str = "cronrun 1
+replicas 1
+window 2024-03-31T00:00Z 2024-03-31T01:00Z
+grace 0
+crontab alice UTC 1
+0,20,40 * * * * echo hi
+version 1 2024-03-31T00:20Z
+crontab bob UTC 1
+* * * * * x
+script
+end
+";
+
+pub const RENAMED_JOB_REPORT: &str = "jobs 2
+job alice:1 launched 2 void 0
+job bob:1 launched 39 void 0
+launch alice:1@20240331T0000Z
+launch alice:1@20240331T0020Z
+launch bob:1@20240331T0021Z
+launch bob:1@20240331T0022Z
+";
+
+// The first version after version 0 isn't version 2.
+pub const VERSION_LEFT_OUT: &str = "cronrun 1
+replicas 1
+window 2024-03-31T00:00Z 2024-03-31T01:00Z
+grace 0
+crontab alice UTC 1
+0,20,40 * * * * echo hi
+version 2 2024-03-31T00:30Z
+crontab alice UTC 1
+10,50 * * * * echo hi
+script
+end
+";
+
 pub const THREE_LAUNCHES_LIST: &str = "cron due 1
 job alice:1 version 0 count 3
 due alice:1@20240331T0000Z 2024-03-31T00:00

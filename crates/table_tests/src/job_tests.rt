@@ -1,5 +1,6 @@
 //! The jobs that run files name, and the run files that are refused for what they name.
 ghost use Rattle.std.specs.Prelude.{◌<◌, ◌^◌, length};
+ghost use Rattle.due_set.specs.Table.{version_count};
 
 use crate::rows::{short, sides};
 use due_set::{JobKind, JobTable, Period};
@@ -43,13 +44,15 @@ fn refusal_of(alloc: Global, window: &str, sections: &str) -> Result<String, Fai
     }
 }
 
-// Each job's name and when it runs, a line each.
-fn show_jobs(alloc: Global, table: &JobTable) -> Result<String, Fail> {
+// Each job's name and when it runs in a version, a line each.
+fn show_jobs(alloc: Global, table: &JobTable, version: u32) -> Result<String, Fail>
+    requires { version < version_count table.now }
+{
     let mut shown = String::new(alloc);
     for job in 0..table.jobs() {
         write!(shown, "{} ", table.name(job))?;
-        match table.kind(0, job) {
-            JobKind::Crontab { .. } => write!(shown, "{} times\n", table.count_due(0, job))?,
+        match table.kind(version, job) {
+            JobKind::Crontab { .. } => write!(shown, "{} times\n", table.count_due(version, job))?,
             JobKind::Never => shown.push_str("never\n")?,
             JobKind::Anacron {
                 period,
@@ -98,7 +101,41 @@ fn jobs(rt: HostRuntime) -> Result<(), Fail> {
     for row in JOBS.lines() {
         let (sections, want) = sides(rt.alloc(), row)?;
         let table = table_of(rt.alloc(), HOUR, &sections)?;
-        assert_eq!(rt; show_jobs(rt.alloc(), &table)?, want, "{row}");
+        assert_eq!(rt; show_jobs(rt.alloc(), &table, 0)?, want, "{row}");
+    }
+    Ok(())
+}
+
+// Each version's jobs, below its number.
+fn show_versions(alloc: Global, table: &JobTable) -> Result<String, Fail> {
+    let mut shown = String::new(alloc);
+    for version in 0..table.versions() {
+        write!(
+            shown,
+            "version {version}\n{}",
+            show_jobs(alloc, table, version)?
+        )?;
+    }
+    Ok(shown)
+}
+
+// Each version has a job of each name, in the order in which names come first.
+const VERSIONS: &str = "\
+crontab alice UTC 1¶0,20,40 * * * * echo hi¶version 1 2024-03-31T00:30Z¶crontab alice UTC 1¶10,50 * * * * echo hi¶ => version 0¶alice:1 3 times¶version 1¶alice:1 2 times¶
+crontab alice UTC 1¶0,20,40 * * * * echo hi¶version 1 2024-03-31T00:20Z¶crontab bob UTC 1¶* * * * * x¶ => version 0¶alice:1 3 times¶bob:1 never¶version 1¶alice:1 never¶bob:1 60 times¶
+crontab a UTC 2¶0 * * * * x¶@reboot y¶version 1 2024-03-31T00:00Z¶crontab b UTC 1¶*/7 * * * * x¶crontab a UTC 1¶*/5 * * * * x¶version 2 2024-03-31T00:00Z¶anacrontab a UTC 1¶1 5 x y¶crontab a UTC 2¶@reboot x¶0 * * * * y¶ => version 0¶a:1 1 times¶a:2 never¶b:1 never¶a/x never¶version 1¶a:1 12 times¶a:2 never¶b:1 9 times¶a/x never¶version 2¶a:1 never¶a:2 1 times¶b:1 never¶a/x days 1 from 5 until 1440¶
+version 1 2024-03-31T00:59Z¶crontab a UTC 1¶@hourly x¶ => version 0¶a:1 never¶version 1¶a:1 1 times¶
+crontab a UTC 1¶@hourly x¶version 1 2024-03-31T00:59Z¶ => version 0¶a:1 1 times¶version 1¶a:1 never¶
+version 1 2024-03-31T00:00Z¶version 2 2024-03-31T00:00Z¶ => version 0¶version 1¶version 2¶
+crontab a Z 1¶15 * * * * x¶version 1 2024-03-31T00:30Z¶zone Z fixed +00:30¶crontab a UTC 1¶0 0 * * * x¶ => version 0¶a:1 1 times¶version 1¶a:1 1 times¶
+";
+
+#[test]
+fn jobs_of_versions(rt: HostRuntime) -> Result<(), Fail> {
+    for row in VERSIONS.lines() {
+        let (sections, want) = sides(rt.alloc(), row)?;
+        let table = table_of(rt.alloc(), HOUR, &sections)?;
+        assert_eq!(rt; show_versions(rt.alloc(), &table)?, want, "{row}");
     }
     Ok(())
 }
@@ -127,6 +164,9 @@ zone A posix UTC0¶zone B posix ?¶zone C posix ?¶ => line 6: cause 32 at 0
 crontab alice Mars 0¶zone A posix ?¶ => line 6: cause 32 at 0
 zone Mars fixed +00:00¶crontab alice mars 0¶ => line 6: cause 21 at 0
 zone A fixed +01:00¶crontab alice A 2¶CRON_TZ=B¶@daily x¶ => line 7: cause 21 at 0
+crontab a UTC 1¶@daily x¶version 1 2024-03-31T00:30Z¶crontab a UTC 1¶@daily x¶crontab a UTC 1¶@daily x¶ => line 11: cause 22 at 0
+crontab a UTC 1¶@daily x¶version 1 2024-03-31T00:30Z¶crontab a Mars 0¶ => line 8: cause 21 at 0
+version 1 2024-03-31T00:30Z¶crontab a UTC 2¶@daily x¶CRON_TZ=Mars¶version 2 2024-03-31T00:30Z¶crontab a Mars 0¶ => line 8: cause 21 at 0
 ";
 
 #[test]
@@ -179,15 +219,51 @@ fn a_thousand_and_one_jobs(rt: HostRuntime) -> Result<(), Fail> {
     Ok(())
 }
 
+// A name counts once, in however many versions it stands.
+#[test]
+fn a_thousand_jobs_over_all_versions(rt: HostRuntime) -> Result<(), Fail> {
+    let most = entries(rt.alloc(), 1000)?;
+    let again = format!(in rt.alloc(); "{most}version 1 2024-03-31T00:30Z\n{most}")?;
+    assert_eq!(rt; table_of(rt.alloc(), HOUR, &again)?.jobs(), 1000);
+    let more = format!(in rt.alloc();
+        "{most}version 1 2024-03-31T00:30Z\ncrontab b UTC 1\n@reboot x\n"
+    )?;
+    assert_eq!(rt;
+        refusal_of(rt.alloc(), HOUR, &more)?.as_str(),
+        "line 0: cause 23 at 0"
+    );
+    Ok(())
+}
+
 const MINUTELY: &str = "crontab alice UTC 2\n* * * * * x\n0 0 13 1 * x\n";
 
 #[test]
 fn twenty_thousand_due_instants(rt: HostRuntime) -> Result<(), Fail> {
     let table = table_of(rt.alloc(), "2024-01-01T00:00Z 2024-01-14T21:19Z", MINUTELY)?;
-    let shown = show_jobs(rt.alloc(), &table)?;
+    let shown = show_jobs(rt.alloc(), &table, 0)?;
     assert_eq!(rt; shown.as_str(), "alice:1 19999 times\nalice:2 1 times\n");
     let refusal = refusal_of(rt.alloc(), "2024-01-01T00:00Z 2024-01-14T21:20Z", MINUTELY)?;
     assert_eq!(rt; refusal.as_str(), "line 0: cause 24 at 0");
+    Ok(())
+}
+
+// Each version counts over the whole window: 6 times 2,880 are taken, and 7 times are refused.
+#[test]
+fn twenty_thousand_due_instants_over_all_versions(rt: HostRuntime) -> Result<(), Fail> {
+    let mut sections = String::from_str(rt.alloc(), "crontab a UTC 1\n* * * * * x\n")?;
+    for version in 1..6 {
+        write!(
+            sections,
+            "version {version} 2024-01-01T00:00Z\ncrontab a UTC 1\n* * * * * x\n"
+        )?;
+    }
+    let days = "2024-01-01T00:00Z 2024-01-03T00:00Z";
+    assert_eq!(rt; table_of(rt.alloc(), days, &sections)?.versions(), 6);
+    sections.push_str("version 6 2024-01-01T00:00Z\ncrontab a UTC 1\n* * * * * x\n")?;
+    assert_eq!(rt;
+        refusal_of(rt.alloc(), days, &sections)?.as_str(),
+        "line 0: cause 24 at 0"
+    );
     Ok(())
 }
 

@@ -48,7 +48,36 @@ due bob:3@20240331T0030Z 2024-03-31T00:30
 end
 ";
 
+// Two versions, of which the second has another zone and one job more.
+const VERSIONS: &str = "crontab alice UTC 1
+0,40 * * * * x
+version 1 2024-03-31T00:30Z
+zone A fixed +00:30
+anacrontab b A 1
+1 5 c x
+crontab alice A 1
+40 * * * * x
+";
+
+const VERSIONS_LIST: &str = "cron due 1
+job alice:1 version 0 count 2
+due alice:1@20240331T0000Z 2024-03-31T00:00
+due alice:1@20240331T0040Z 2024-03-31T00:40
+job b/c version 0 count 0
+job alice:1 version 1 count 1
+due alice:1@20240331T0010Z 2024-03-31T00:40
+anacron b/c version 1
+end
+";
+
 const ROWS: &[Row] = &[
+    Row {
+        window: HOUR,
+        parts: VERSIONS,
+        into: WHOLE,
+        result: Ok(()),
+        text: VERSIONS_LIST,
+    },
     Row {
         window: HOUR,
         parts: "",

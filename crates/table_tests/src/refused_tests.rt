@@ -228,6 +228,38 @@ crontab alice A 2¶zone A posix X¶ => line 6: cause 4 at 0
     behind: "script\nend\n",
 };
 
+// A line of a version, below version 1.
+const VERSION_LINES: Refused = Refused {
+    before: "cronrun 1\nreplicas 1\nwindow 2024-03-31T00:00Z 2024-03-31T01:00Z\ngrace 0\nversion 1 2024-03-31T00:30Z\n",
+    rows: "\
+version => line 6: cause 36 at 0
+version  => line 6: cause 36 at 0
+version 2 => line 6: cause 36 at 0
+version 2  => line 6: cause 36 at 0
+version 2 2024-03-31T00:29Z => line 6: cause 36 at 0
+version 2 2024-03-31T01:00Z => line 6: cause 36 at 0
+version 2 2024-03-30T23:59Z => line 6: cause 36 at 0
+version 2 2024-03-31T00:60Z => line 6: cause 36 at 0
+version 2 2024-03-31T00:30 => line 6: cause 36 at 0
+version 2 20240331T0030Z => line 6: cause 36 at 0
+version 2 2024-03-31T00:30Z  => line 6: cause 36 at 0
+version 2  2024-03-31T00:30Z => line 6: cause 36 at 0
+version 02 2024-03-31T00:30Z => line 6: cause 36 at 0
+version +2 2024-03-31T00:30Z => line 6: cause 36 at 0
+version 0 2024-03-31T00:30Z => line 6: cause 36 at 0
+version 1 2024-03-31T00:30Z => line 6: cause 36 at 0
+version 3 2024-03-31T00:30Z => line 6: cause 36 at 0
+version 2 2024-03-31T00:30Z¶version 2 2024-03-31T00:30Z => line 7: cause 36 at 0
+version 2 2024-03-31T00:59Z¶version 3 2024-03-31T00:30Z => line 7: cause 36 at 0
+versions 2 2024-03-31T00:30Z => line 6: cause 31 at 0
+Version 2 2024-03-31T00:30Z => line 6: cause 31 at 0
+version 2 2024-03-31T00:30Z¶version 3 2024-03-31T00:30Z¶version 4 2024-03-31T00:30Z¶version 5 2024-03-31T00:30Z¶version 6 2024-03-31T00:30Z¶version 7 2024-03-31T00:30Z¶version 8 2024-03-31T00:30Z => line 12: cause 36 at 0
+crontab a UTC 1¶version 2 2024-03-31T00:30Z => line 7: cause 4 at 0
+script¶version 2 2024-03-31T00:30Z => line 7: cause 30 at 0
+",
+    behind: "\nscript\nend\n",
+};
+
 // What the text is refused for.
 fn refusal_of(alloc: Global, text: &str) -> Result<String, Fail> {
     match read_run(alloc, short(text)?) {
@@ -269,4 +301,5 @@ const TABLES: &[Refused] = &[
     CONTINUED,
     ZONE_LINES,
     ZONES,
+    VERSION_LINES,
 ];

@@ -9,7 +9,7 @@ use std::test::Fail;
 
 const HEAD: &str = "cronrun 1\nreplicas 1\nwindow 2024-03-31T00:00Z 2024-03-31T01:00Z\ngrace 0\n";
 
-// The zones of a run, and its sections, a line each.
+// The zones of a run, its sections and its versions, a line each.
 fn show_parts(alloc: Global, run: &RunFile<'_>) -> Result<String, Fail> {
     let mut shown = String::new(alloc);
     for zone in &run.zones {
@@ -17,6 +17,10 @@ fn show_parts(alloc: Global, run: &RunFile<'_>) -> Result<String, Fail> {
     }
     for section in &run.sections {
         write!(shown, "{}\n", show_section(alloc, section)?)?;
+    }
+    for version in &run.versions {
+        let (line, from, above) = (version.line, version.from.0, version.first_section);
+        write!(shown, "{line} from {from} below {above}\n")?;
     }
     Ok(shown)
 }
@@ -71,6 +75,25 @@ anacrontab a UTC 4¶RANDOM_DELAY=6¶# a\\¶b¶@daily 5 tidy x\\¶crontab c UTC 1
 #[test]
 fn runs(rt: HostRuntime) -> Result<(), Fail> {
     for row in RUNS.lines() {
+        let (lines, want) = sides(rt.alloc(), row)?;
+        let text = format!(in rt.alloc(); "{HEAD}{lines}script\nend\n")?;
+        let run = run_of(rt.alloc(), &text)?;
+        assert_eq!(rt; show_parts(rt.alloc(), &run)?, want, "{row}");
+    }
+    Ok(())
+}
+
+// Versions, between the sections and the zones of a run.
+const VERSIONS: &str = "\
+version 1 2024-03-31T00:00Z¶ => 5 from 28530720 below 0¶
+version 1 2024-03-31T00:59Z¶ => 5 from 28530779 below 0¶
+crontab a UTC 1¶@daily x¶version 1 2024-03-31T00:30Z¶crontab a UTC 0¶crontab b UTC 0¶version 2 2024-03-31T00:30Z¶zone A posix X¶system c A 0¶ => 11 A posix [X]¶5 crontab a UTC [@daily x¶]¶8 crontab a UTC []¶9 crontab b UTC []¶12 system c A []¶7 from 28530750 below 1¶10 from 28530750 below 3¶
+version 1 2024-03-31T00:00Z¶version 2 2024-03-31T00:01Z¶version 3 2024-03-31T00:02Z¶version 4 2024-03-31T00:03Z¶version 5 2024-03-31T00:04Z¶version 6 2024-03-31T00:05Z¶version 7 2024-03-31T00:06Z¶crontab a UTC 0¶ => 12 crontab a UTC []¶5 from 28530720 below 0¶6 from 28530721 below 0¶7 from 28530722 below 0¶8 from 28530723 below 0¶9 from 28530724 below 0¶10 from 28530725 below 0¶11 from 28530726 below 0¶
+";
+
+#[test]
+fn versions(rt: HostRuntime) -> Result<(), Fail> {
+    for row in VERSIONS.lines() {
         let (lines, want) = sides(rt.alloc(), row)?;
         let text = format!(in rt.alloc(); "{HEAD}{lines}script\nend\n")?;
         let run = run_of(rt.alloc(), &text)?;

@@ -1,6 +1,6 @@
 use Rattle.std.proofs.Common.{◌≤◌}
-use Rattle.job_table.proofs.DueCountLemmas.{CountsFirst}
+use Rattle.job_table.proofs.DueCountLemmas.{CountsVersions}
 use Rattle.job_table.proofs.due.count_due.Given as goal
 
-abbrev pub invariant-loop-job : goal.invariant-loop-job
-invariant-loop-job l = record { counted : CountsFirst l.table l.job l.total; few : l.total ≤ 20_000 }
+abbrev pub invariant-loop-version : goal.invariant-loop-version
+invariant-loop-version l = record { counted : CountsVersions l.table l.version l.total; few : l.total ≤ 20_000 }

@@ -2,6 +2,7 @@ use Rattle.std.proofs.Common.{List, All, length, sym, ap, ◌∙◌, subst, arit
 use Rattle.script_text.specs.declared.command.Command.{Command}
 use Rattle.run_text.specs.Run.{run_of}
 use Rattle.run_text.proofs.SoundLemmas.{sound_run}
+use Rattle.job_table.proofs.FieldLemmas.{table_window}
 use Rattle.script_semantics.specs.Starts.{AreStarts}
 use Rattle.journal_text.proofs.StartLemmas.{book_starts}
 use Rattle.world_law.specs.Book.{BookState, IsLegalBook}
@@ -29,7 +30,7 @@ play_run-requires-clause-few g c = λ lives borrowed. (sound_run c.in_ok-short.f
 pub play_run-requires-clause-taken : goal.play_run-requires-clause-taken
 play_run-requires-clause-taken g c = λ lives borrowed.
     let sound = sound_run c.in_ok-short.field-0.now (run_of c.in-Ok.run') c.in-Ok.ensures.read in
-    let window = ap (λ table. table.window) c.in-Ok-build_table.ensures.table.is in
+    let window = table_window (run_of c.in-Ok.run') c.in-Ok-build_table.table c.in-Ok-build_table.ensures.table in
     subst (λ w. All (IsPlayable w c.in-Ok.run'.members) c.as_slice-commands.result.now) (sym window)
     (subst (λ (l : List Command). All (IsPlayable c.in-Ok.run'.window c.in-Ok.run'.members) l) (sym c.as_slice-commands.ensures.value) (script_taken _ (run_of c.in-Ok.run') sound))
 
