@@ -17,6 +17,7 @@ from small_world.known import AT_ONE, FOUR_HOURS, KNOWN, run_file
 from small_world.made import break_run, free_run, script_run
 from small_world.run_file import RunFile
 from small_world.texts import journal_of, report_of
+from small_world.versions_made import version_run, without_last_version
 from small_world.world import World
 
 ROOT = os.path.dirname(os.path.dirname(os.path.abspath(__file__)))
@@ -282,11 +283,24 @@ class Manual(unittest.TestCase):
 
 class Made(unittest.TestCase):
     def test_runs_are_good(self):
-        for make in (script_run, free_run, break_run):
+        for make in (script_run, free_run, break_run, version_run):
             for seed in SEEDS[:6]:
                 self.assertEqual(answer(joined(make(seed), written(make(seed), seed))), "audit yes\n", (make.__name__, seed))
         for name, text, _ in KNOWN[4:]:
             self.assertIsNone(audit(joined(text, written(text))), name)
+
+    def test_versions_of_a_table(self):
+        """Turn 9, in line 21 behind a report of nine lines, adopts a version at half past; without that one it starts a launch later."""
+        name, text, _ = KNOWN[-3]
+        self.assertEqual((name, without_last_version(text)), ("two versions of a table", ONE_REPLICA))
+        for run, other, clock in ((text, ONE_REPLICA, "40"), (ONE_REPLICA, text, "30")):
+            lines = written(other)
+            self.assertEqual(lines[20], f"9 0 tick 2024-03-31T00:{clock}Z")
+            self.assertEqual(audit(joined(run, lines)), (21, NOT_OBEYED))
+        lines = written(text)
+        legal, report = "9 0 tick 2024-03-31T00:29Z", "job alice:1 launched 2 void 0"
+        for place, line, why in ((20, "9 0 answer", NOT_LEGAL), (20, legal, NOT_OBEYED), (4, report, OTHER_REPORT)):
+            self.assertEqual(audit(joined(text, [*lines[:place], line, *lines[place + 1 :]])), (place + 1, why))
 
     def test_damage_is_found(self):
         """Of a run in rounds, once its journal alone is damaged, the first line that was changed is at fault."""

@@ -3,6 +3,7 @@ from .instants import minute_of
 from .launches import LAUNCH, End, Start
 from .replica import Snap
 
+ONE_HOUR = "window 2024-03-31T00:00Z 2024-03-31T01:00Z"
 TWO_HOURS = "window 2024-03-31T00:00Z 2024-03-31T02:00Z"
 FOUR_HOURS = "window 2024-03-31T00:00Z 2024-03-31T04:00Z"
 AT_ONE = "0 1 * * * x"
@@ -22,8 +23,18 @@ def late_call(script, kind):
     return run_file(3, FOUR_HOURS, 5, AT_ONE, script), [f"job alice:1 {counts}", f"{kind} {DAILY}"]
 
 
+def of_two_versions(version, table, script, *lines):
+    """A run of one hour whose table changes: the first one has a job three times an hour, and below a version's line stands the next."""
+    text = run_file(1, ONE_HOUR, 0, "0,20,40 * * * * echo hi", script)
+    return text.replace("script\n", f"{version}\n{table}\nscript\n"), list(lines)
+
+
 CUT = "campaign 0; fate 0 late; round 2024-03-31T01:00Z 4; stop 0; "
 TEN_PAST = "campaign 1; round 2024-03-31T01:10Z 5"
+
+# A version from half past on, and its table.
+HALF_PAST = "version 1 2024-03-31T00:30Z"
+TENS = "crontab alice UTC 1\n10,50 * * * * echo hi"
 
 # Debian's anacrontab, which the package cronie has too.
 ANACRON = """\
@@ -54,7 +65,7 @@ FIRSTS = ["03-01", "04-01"]
 KNOWN = [
     (
         "one replica",
-        run_file(1, "window 2024-03-31T00:00Z 2024-03-31T01:00Z", 0, "0,20,40 * * * * echo hi", ""),
+        run_file(1, ONE_HOUR, 0, "0,20,40 * * * * echo hi", ""),
         [
             "job alice:1 launched 3 void 0\nlaunch alice:1@20240331T0000Z",
             "launch alice:1@20240331T0020Z\nlaunch alice:1@20240331T0040Z\nend",
@@ -84,6 +95,36 @@ KNOWN = [
     ),
     ("just within the grace", run_file(1, FOUR_HOURS, 5, AT_ONE, "round 2024-03-31T01:05Z 1"), ["job alice:1 launched 1 void 0"]),
     ("just behind the grace", run_file(1, FOUR_HOURS, 4, AT_ONE, "round 2024-03-31T01:05Z 1"), ["job alice:1 launched 0 void 1"]),
+    (
+        "two versions of a table",
+        *of_two_versions(
+            HALF_PAST,
+            TENS,
+            "",
+            "jobs 1\njob alice:1 launched 3 void 0\nlaunch alice:1@20240331T0000Z",
+            "launch alice:1@20240331T0020Z\nlaunch alice:1@20240331T0050Z\nend",
+        ),
+    ),
+    (
+        "a version that is adopted late, since nobody leads",
+        *of_two_versions(
+            HALF_PAST,
+            TENS,
+            "round 2024-03-31T00:45Z 1",
+            "jobs 1\njob alice:1 launched 1 void 3\nvoid alice:1@20240331T0000Z\nvoid alice:1@20240331T0020Z",
+            "void alice:1@20240331T0040Z\nlaunch alice:1@20240331T0050Z\nend",
+        ),
+    ),
+    (
+        "a version with another job",
+        *of_two_versions(
+            "version 1 2024-03-31T00:20Z",
+            "crontab bob UTC 1\n* * * * * x",
+            "",
+            "jobs 2\njob alice:1 launched 2 void 0\njob bob:1 launched 39 void 0\nlaunch alice:1@20240331T0000Z",
+            "launch alice:1@20240331T0020Z\nlaunch bob:1@20240331T0021Z\nlaunch bob:1@20240331T0022Z",
+        ),
+    ),
 ]
 
 

@@ -5,6 +5,7 @@ from collections import Counter, defaultdict
 from operator import le
 
 from .files import Files
+from .jobs import Never
 from .launches import LAUNCH, End, Start, Table, apply, fresh_rows, takes_effect
 from .replica import MOST_ENTRIES, Accept, Accepted, Follower, Known, Lead, Nack, Prepare, Promise, Snap
 from .world import World
@@ -38,6 +39,8 @@ class WatchedWorld(World):
         self.started = [{} for _ in run.jobs]
         self.ended = {}
         self.adopted = []
+        # The version that each replica knows to be in force.
+        self.known = [0 for _ in self.members]
         self.campaigns = 0
         self.checked = {}
         # Where disks are armed, the files of each.
@@ -61,6 +64,16 @@ class WatchedWorld(World):
             claim(turn.call.at in self.started[turn.call.job], "a launch is called once its start is chosen")
         if turn.who is not None and self.runs[turn.who]:
             self.check_replica(self.replicas[turn.who])
+            self.count_versions(turn, step)
+
+    def count_versions(self, turn, step):
+        """Counts where an adoption waits for a launch that is open, and where a snapshot tells of one."""
+        own = self.replicas[turn.who].launches[-1]
+        later = self.run.versions[own.launched + 1 :]
+        self.seen["adoption that waits"] += bool(turn.call and later and later[0].first <= turn.operand)
+        rows = step.change[2] if turn.word == "hear" and step.change and step.change[0] == "base" else None
+        self.seen["adoption in a snapshot"] += rows is not None and rows[-1].launched > self.known[turn.who]
+        self.known[turn.who] = own.launched
 
     def hears_snapshot(self, turn):
         return any(isinstance(packet, Snap) for packet in self.letters[turn.operand].packets)
@@ -68,11 +81,16 @@ class WatchedWorld(World):
     def count_votes(self, who, votes):
         for slot, ballot, entry in votes:
             voters = self.voters[slot, ballot, entry]
+            self.seen["adoption by a later leader"] += isinstance(entry, Table) and not voters and self.was_proposed(slot, ballot, entry)
             voters.add(who)
             if len(voters) > self.run.members // 2:
                 claim(self.chosen.setdefault(slot, entry) == entry, "one entry is chosen at a slot")
         while len(self.tables) - 1 in self.chosen:
             self.extend(self.chosen[len(self.tables) - 1])
+
+    def was_proposed(self, slot, ballot, entry):
+        """Whether an entry was voted for at a slot in an earlier ballot."""
+        return any((at, voted) == (slot, entry) and other < ballot for at, other, voted in self.voters)
 
     def extend(self, entry):
         """The log gains an entry."""
@@ -86,11 +104,27 @@ class WatchedWorld(World):
         """Counts an entry of the log that takes effect."""
         if isinstance(entry, Start):
             claim(entry.at not in self.started[entry.job], "no launch is started twice")
+            self.seen["job comes back"] += self.comes_back(entry.job)
             self.started[entry.job][entry.at] = len(self.adopted)
         elif isinstance(entry, End):
             self.check_end(entry)
         elif isinstance(entry, Table):
-            self.adopted.append(entry.now)
+            self.check_adoption(entry)
+
+    def comes_back(self, number):
+        """Whether a job was launched by an earlier version, and a version since then lacked it."""
+        last = max(self.started[number].values(), default=len(self.adopted))
+        return any(isinstance(version.jobs[number], Never) for version in self.run.versions[last : len(self.adopted)])
+
+    def check_adoption(self, entry):
+        """A version is adopted in its turn, while no launch is open, and not before an instant that was started."""
+        *rows, _ = self.tables[-1]
+        claim(entry.version == len(self.adopted) + 1, "versions are adopted in turn")
+        claim(all(row.open_now is None for row in rows), "no launch is open as a version is adopted")
+        cursors = [row.cursor for job, row in zip(self.run.jobs, rows) if row.cursor is not None and not job.by_period]
+        claim(max(cursors, default=entry.now) <= entry.now, "no version is adopted before an instant that was started")
+        self.seen["adoption"] += 1
+        self.adopted.append(entry.now)
 
     def check_end(self, end):
         held = self.ledger.held.get((end.job, end.at))
@@ -237,9 +271,11 @@ class WatchedWorld(World):
         claim(all(at in launched for at in dues if at > by_script), "each later due instant is launched")
 
     def check_dates(self, number):
-        """By the version by which it was started, each launch is a period behind the one before."""
+        """By the version by which it was started, which has the job, each launch is a period behind the one before."""
         started = self.started[number]
         claim(list(started) == sorted(started), "dates rise")
+        lacking = [version for version in started.values() if isinstance(self.run.versions[version].jobs[number], Never)]
+        claim(not lacking, "no date is started by a version without the job")
         dates = [at for at in started if self.ended.get((number, at)) == LAUNCH]
         for last, day in zip(dates, dates[1:]):
             claim(self.run.versions[started[day]].jobs[number].is_over(last, day), "launches are a period apart")
