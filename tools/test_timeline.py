@@ -294,6 +294,17 @@ class Timeline(unittest.TestCase):
             told = self.titles(ElementTree.fromstring(output), "rect", "within")
             self.assertEqual([title.split(" ")[1] for title in told], [f"{number}:" for number in drawn])
 
+    def test_a_version_that_is_adopted(self):
+        """It is drawn in the turn in which it is decided."""
+        script = "version 1 2024-03-31T01:30Z\nscript\ncampaign 0\nround 2024-03-31T01:30Z 10\nend\n"
+        path = self.write(BROKEN.replace("script", script), "changed")
+        said = "urn 39: a majority has voted for version 1 2024-03-31T01:30Z: it is adopted"
+        for words, count in (([], 1), (["--from", "39", "--until", "40"], 1), (["--until", "39"], 0), (["--from", "40"], 0)):
+            picture = ElementTree.fromstring(self.ran(path, "--alone", *words)[1])
+            self.assertEqual(self.titles(picture, "line", "version"), [f"t{said}"] * count, words)
+            told = self.texts(picture).count("version adopted"), self.texts(picture, "label").count("version 1")
+            self.assertEqual((*told, picture.find(SVG + "desc").text.count(f"T{said}")), (count,) * 3, words)
+
     def test_a_journal_has_the_same_picture(self):
         world = world_of("leader_cut_off")
         self.write(report_of(world) + journal_of(world))

@@ -14,7 +14,7 @@ TEXTS = ("ink", "small", "note")
 # What lies behind signs: what stands on a band of who is stopped is the sign that it stops, and lines.
 PAPERS = ("paper", "candidate_fill", "leader_fill", "free_fill")
 # Signs of one form: lines, edges of bands, marks of votes and entries, and signs at the scheduler.
-ALIKE = [("letter", "lost", "call", "late"), ("late", "leader", "stopped"), ("vote", "learned"), ("call", "lost", "late")]
+ALIKE = [("letter", "lost", "call", "late", "learned"), ("late", "leader", "stopped"), ("vote", "learned"), ("call", "lost", "late")]
 LEAST_CONTRAST, LEAST_OF_TEXT, LEAST_DISTANCE = 3, 4.5, 20
 DEUTERANOPIA = ((0.367322, 0.860646, -0.227968), (0.280085, 0.672501, 0.047413), (-0.011820, 0.042940, 0.968881))
 

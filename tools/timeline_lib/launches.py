@@ -25,6 +25,8 @@ class Launches:
         self.proposed = {}
         self.voters = defaultdict(set)
         self.chosen = set()
+        # The versions that are adopted, each in the turn with whose vote there is a majority for it.
+        self.adoptions = []
         # The launch that each replica called for last, that of each turn in which an answer is taken, and those of late calls.
         self.called = {}
         self.answers = {}
@@ -91,6 +93,7 @@ class Launches:
         voters.add(turn.who)
         if len(voters) > self.run.members // 2 and slot not in self.chosen:
             self.chosen.add(slot)
+            self.adoptions += [(number, entry)] if isinstance(entry, Table) else []
             self.tell(number, name, f"a majority has voted for {what(entry)}: it is decided")
 
     def entries_in(self, letter):

@@ -6,7 +6,7 @@ from small_world.launches import LAUNCH, Table
 from .launches import launch_of
 from .layout import COLUMN, TRACK
 from .svg import LETTER, bent, box, cross, diamond, disc, group_of, line, shape, words
-from .words import call_words, letter_words, stop_words, term_label, turn_words
+from .words import adoption_words, call_words, letter_words, stop_words, term_label, turn_words
 
 # Layers, from the one that lies behind the others.
 FRAME, BANDS, LETTERS, TRACKS, CALLS, TURNS, FAULT = range(7)
@@ -46,7 +46,7 @@ class Marks:
 
     def all(self):
         """All marks that stand among the turns that are drawn."""
-        return [*self.bands(), *self.tracks(), *self.letters(), *self.calls(), *self.turns()]
+        return [*self.bands(), *self.tracks(), *self.letters(), *self.calls(), *self.adoptions(), *self.turns()]
 
     def shown(self):
         return [(number, self.world.turns[number]) for number in range(self.layout.first, self.layout.until)]
@@ -216,10 +216,26 @@ class Marks:
         """A call with its sign on the scheduler's track, and the launch's name below where there is room for it."""
         x, y = self.layout.x(number), self.layout.scheduler
         text = stroke + (cross(x, y, 5, kind) if kind == "void" else disc(x, y, 6, kind))
-        row, place, told = self.layout.names.get(number, (None, x, ""))
-        text += words(place, self.layout.name_y(row), told, "label") if told else ""
-        right = max(x + 6, place + len(told) * LETTER)
-        return Mark(CALLS, kind, min(left, x - 6, place), right, group_of(text, said), **more)
+        told, begin, end = self.name(number)
+        return Mark(CALLS, kind, min(left, x - 6, begin), max(x + 6, end), group_of(text + told, said), **more)
+
+    def name(self, number):
+        """The name that stands below a turn, if one does, and the pixels between which it stands."""
+        row, place, told = self.layout.names.get(number, (None, self.layout.x(number), ""))
+        text = words(place, self.layout.name_y(row), told, "label") if told else ""
+        return text, place, place + len(told) * LETTER
+
+    # The versions of the table.
+
+    def adoptions(self):
+        """The versions that are adopted, each across all tracks, with its number below where there is room for it."""
+        for number, entry in self.launches.adoptions:
+            if self.layout.is_drawn(number):
+                x = self.layout.x(number)
+                told, begin, end = self.name(number)
+                stroke = line(x, self.layout.top, x, self.layout.scheduler, "version")
+                text = group_of(stroke + told, adoption_words(self.words, number, entry))
+                yield Mark(CALLS, "version", min(x - 1, begin), max(x + 1, end), text)
 
     # The tracks' turns.
 

@@ -49,6 +49,7 @@ text{font:11px sans-serif}.name{font-weight:bold;font-size:12px}.label{stroke-wi
 path.lost,path.void{stroke-dasharray:none;stroke-width:2;fill:none}
 .fault{stroke-width:2;fill:none}line.fault{stroke-dasharray:6 3}
 .within{stroke-width:2}.call,.late{stroke-width:1.5}.late{stroke-dasharray:4 3}.base{stroke-width:2}
+.version{stroke-width:1.5;stroke-dasharray:8 3}
 .candidate{stroke-dasharray:5 3}.candidate,.leader,.stopped{stroke-width:1.5}
 .found,.waiting{stroke-width:2.5}.waiting{stroke-dasharray:3 2}
 """
@@ -59,6 +60,7 @@ line,.track,.part{stroke:FRAME}.letter{stroke:LETTER}.arrow{fill:LETTER}.lost,.v
 .candidate{fill:CANDIDATE_FILL;stroke:LATE}.leader{fill:LEADER_FILL;stroke:LEADER}
 .stopped{fill:STOPPED_FILL;stroke:STOPPED}.free{fill:FREE_FILL;stroke:FRAME}
 .tick,.hear{fill:TICK}.stop{fill:STOP}.within{stroke:STOP}.restart,.learned{fill:LEARNED}.vote{fill:VOTE}.base{stroke:VOTE}
+.version{stroke:LEARNED}
 """
 
 

@@ -33,6 +33,7 @@ SIGNS = [
     ("vote", diamond(8, 0, "vote"), "vote"),
     ("learned", box(4, -4, 8, 8, "learned"), "entry learned"),
     ("base", box(4, -4, 8, 8, "base"), "launch table kept"),
+    ("version", line(8, -7, 8, 7, "version"), "version adopted"),
     ("answer", turn_sign(8, 0, "answer"), "takes the answer"),
     ("stop", turn_sign(8, 0, "stop"), "stops"),
     ("stop_kept", turn_sign(8, 0, "stop_kept"), "stops within a write, which is kept"),
@@ -55,8 +56,9 @@ class Picture:
         self.run = world.run
         self.name = name
         labels = [(turn, launch_label(self.run, call)) for turn, call, _ in calls_of(world, first, until)]
+        labels += [(turn, f"version {entry.version}") for turn, entry in launches.adoptions]
         is_free = any(begin < until and end > first for begin, end in self.free_parts())
-        self.layout = Layout(self.run.members, first, until, self.commands(first), labels, is_free)
+        self.layout = Layout(self.run.members, first, until, self.commands(first), sorted(labels), is_free)
         marks = Marks(world, launches, words_of(world.run), self.layout).all()
         faults = [self.fault(fault)] if fault and not fault.is_of_report and until == len(world.turns) else []
         self.marks = sorted([*self.free(), *self.parts(), *self.axis(), *faults, *marks], key=lambda mark: mark.layer)
@@ -82,7 +84,7 @@ class Picture:
 
     def description(self):
         """What happens, for those who don't see the picture."""
-        return element("desc", inside=escape(told(self.world, self.layout.first, self.layout.until)))
+        return element("desc", inside=escape(told(self.launches, self.layout.first, self.layout.until)))
 
     def is_cut(self):
         """Whether some turns aren't drawn."""

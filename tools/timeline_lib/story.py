@@ -1,5 +1,5 @@
-"""What happens in a run, as sentences: who leads when, what stops, and what the scheduler is called for."""
-from .words import TERMS, call_words, stop_words, words_of
+"""What happens in a run, as sentences: who leads when, what stops, what the scheduler is called for, and which versions are adopted."""
+from .words import TERMS, adoption_words, call_words, stop_words, words_of
 
 # So many sentences at most; a run may have thousands.
 MOST_TOLD = 60
@@ -46,9 +46,16 @@ def called(world, number, call, late):
     return f"turn {number}: late call {late} arrives, for {world.run.jobs[call.job].title(call.at)}"
 
 
-def told(world, first, until):
+def adopted(launches, first, until):
+    """The turns in which versions are adopted, and what is told of each."""
+    words = words_of(launches.run)
+    return [(number, adoption_words(words, number, entry)) for number, entry in launches.adoptions if first <= number < until]
+
+
+def told(launches, first, until):
     """The sentences of some turns, in their order."""
+    world = launches.world
     found = [(number, called(world, number, call, late)) for number, call, late in calls_of(world, first, until)]
-    found = sorted([*found, *changes(world, first, until)])
+    found = sorted([*found, *changes(world, first, until), *adopted(launches, first, until)])
     texts = [text for _, text in found[:MOST_TOLD]]
     return ". ".join(text[0].upper() + text[1:] for text in texts) + ("." if texts else "") + (" .." if found[MOST_TOLD:] else "")

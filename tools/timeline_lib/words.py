@@ -79,6 +79,11 @@ def call_words(run, number, turn, is_held=False):
     return f"turn {number}: replica {turn.who} calls for {title}, a {turn.call.kind}{why}: {told}"
 
 
+def adoption_words(words, number, entry):
+    """In which turn a version is adopted, which one, and at which clock reading."""
+    return f"turn {number}: a majority has voted for {words.entry(entry)}: it is adopted"
+
+
 def why_void(run, call):
     """Why a launch is given up, by the clock of who calls."""
     job, read = run.jobs[call.job], f"its clock reads {stamp_of(call.now)}"
