@@ -5,7 +5,7 @@ _hevtsora_options() {
   case $1 in
     cron_cluster) echo --journal --watch --list --check --audit --make --lanes ;;
     run_file) echo --root --from --days --until --grace --replicas --script --zone --zoneinfo --user --system --anacron --cron \
-      --modes --skip --list --why --next --change --hints --json --csv --check --program --help --version ;;
+      --modes --skip --list --why --next --change --at --hints --json --csv --check --program --help --version ;;
     ran) echo --from --until --day --grace --late --year --json --root --zone --zoneinfo --user --system --anacron --cron --skip \
       --program --help --version ;;
     explain) echo --plain --help --version ;;
@@ -36,7 +36,7 @@ _hevtsora() {
     --cron) mapfile -t COMPREPLY < <(compgen -W "debian cronie hevtsora" -- "$word") ;;
     --day) mapfile -t COMPREPLY < <(compgen -W "today yesterday" -- "$word") ;;
     --zone) mapfile -t COMPREPLY < <(compgen -W "UTC $(awk '!/^#/ { print $3 }' "$zones" 2> /dev/null)" -- "$word") ;;
-    --from | --until | --days | --grace | --late | --year | --replicas | --why | --next | --seed | --jobs | --launch | --make | --lanes) ;;
+    --from | --until | --at | --days | --grace | --late | --year | --replicas | --why | --next | --seed | --jobs | --launch | --make | --lanes) ;;
     *)
       if [[ $word == -* || $program == run_file || $program == cron_cluster ]]; then
         mapfile -t COMPREPLY < <(compgen -W "$(_hevtsora_options "$program")" -- "$word")

@@ -23,6 +23,7 @@ due_list     its rows, with where each comes from
 matching     when an entry is due by its fields
 explain      why an entry is due at a minute, or isn't
 changes      what a new table changes
+versions     the versions of the tables that changes at a time make
 hints        what a table says and its writer hardly means
 formats      the rows as text, as JSON and as comma-separated values
 findings     what is wrong with the tables, by the script and by the program

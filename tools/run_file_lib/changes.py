@@ -1,12 +1,15 @@
 """What a new table changes: which launches there are more, less, and at another time."""
 import os
-from collections import Counter, defaultdict
+from collections import Counter, defaultdict, namedtuple
 
-from .due_list import LAUNCH
+from .due_list import LAUNCH, rows_of
 from .faults import Stop, counted, shown
+from .formats import Text
 from .places import OPTION, PLACE, SPOOL, SPOOLS, Table
 
 MORE, LESS, MOVED = "+", "-", "~"
+# A row, and the form that shows it.
+Told = namedtuple("Told", "row form")
 
 
 def split_change(text):
@@ -38,21 +41,29 @@ def new_table(table, file):
     return table._replace(file=file, origin=OPTION)
 
 
+def rows_told(lists):
+    """The rows of due lists that follow each other in time. Those without a time are of the last one."""
+    for due in lists:
+        form = Text(due)
+        for part in due.parts():
+            yield from (Told(row, form) for minute in part for row in rows_of(minute))
+    yield from (Told(row, form) for row in due.rows_without_time())
+
+
 def differences(old, new):
-    """What differs between the rows of two due lists: of each row its sign, the row, and the one that it stands in place of."""
+    """What differs between the rows of due lists and of others: of each row its sign, the row, and the one that it stands in place of."""
     signed = []
     rows = defaultdict(lambda: ([], []))
-    for side, due in enumerate((old, new)):
-        for part in due.rows():
-            for row in part:
-                if row.origin is not None:
-                    rows[key_of(row)][side].append(row)
+    for side, lists in enumerate((old, new)):
+        for told in rows_told(lists):
+            if told.row.origin is not None:
+                rows[key_of(told.row)][side].append(told)
     for before, after in rows.values():
         less, more = beside(before, after), beside(after, before)
         moved, less, more = paired(less, more)
-        signed += [(MOVED, row, other) for other, row in moved]
-        signed += [(LESS, row, None) for row in less] + [(MORE, row, None) for row in more]
-    return sorted(signed, key=lambda it: (it[1].instant or "9", it[0] != LESS))
+        signed += [(MOVED, told, other) for other, told in moved]
+        signed += [(LESS, told, None) for told in less] + [(MORE, told, None) for told in more]
+    return sorted(signed, key=lambda it: (it[1].row.instant or "9", it[0] != LESS))
 
 
 def key_of(row):
@@ -62,12 +73,12 @@ def key_of(row):
 
 def beside(rows, others):
     """The rows whose times the others don't have, or less often."""
-    left = Counter(time_of(row) for row in others)
+    left = Counter(time_of(other.row) for other in others)
     kept = []
-    for row in rows:
-        left[time_of(row)] -= 1
-        if left[time_of(row)] < 0:
-            kept.append(row)
+    for told in rows:
+        left[time_of(told.row)] -= 1
+        if left[time_of(told.row)] < 0:
+            kept.append(told)
     return kept
 
 
@@ -79,15 +90,15 @@ def time_of(row):
 def paired(less, more):
     """The launches of one job that are at another time of the same date, in pairs, and those that are left of both."""
     days, moved, new = defaultdict(list), [], []
-    for row in less:
-        days[day_of(row)].append(row)
-    for row in more:
-        before = days[day_of(row)]
+    for told in less:
+        days[day_of(told.row)].append(told)
+    for told in more:
+        before = days[day_of(told.row)]
         if before:
-            moved.append((before.pop(0), row))
+            moved.append((before.pop(0), told))
         else:
-            new.append(row)
-    return moved, [row for rows in days.values() for row in rows], new
+            new.append(told)
+    return moved, [told for rows in days.values() for told in rows], new
 
 
 def day_of(row):
@@ -95,17 +106,14 @@ def day_of(row):
     return row.local[:10] if row.kind == LAUNCH else row.kind
 
 
-def change_lines(signed, old_form, new_form):
+def change_lines(signed):
     """The lines that show the differences, and how many there are."""
-    for sign, row, other in signed:
-        form = old_form if sign == LESS else new_form
-        yield f"{sign} {form.line(row, instead_of(other))}"
+    for sign, told, other in signed:
+        yield f"{sign} {told.form.line(told.row, instead_of(other.row) if other else None)}"
     counts = Counter(sign for sign, _, _ in signed)
     yield f"{counted(counts[MORE], 'launch', 'launches')} more, {counts[LESS]:,} less, {counts[MOVED]:,} at another time"
 
 
 def instead_of(other):
     """What is told of the launch that one stands in place of."""
-    if other is None:
-        return None
     return f"instead of {other.local[11:]}" if other.kind == LAUNCH else f"instead of {other.origin.job.when or 'another line'}"

@@ -17,6 +17,7 @@ from .options import number_of, options_of, parser
 from .origins import alone
 from .stamps import LAST, MOST_MINUTES, Clock, Window
 from .streams import Once
+from .versions import changed_parts
 
 MOST_LAUNCHES = 10_000
 # What a form is made for: the tables' zone, and the jobs by their names.
@@ -57,11 +58,11 @@ class Command:
     def run(self, now):
         """Writes what the options ask for, and gives the status."""
         options = self.options
-        if options.change:
+        if options.change and not options.at:
             return self.change(now)
         made = self.gatherer.run_file(now)
         if options.list:
-            return self.list(made)
+            return self.changes(made) if options.at else self.list(made)
         if options.check:
             return self.check(made)
         if options.why:
@@ -100,7 +101,8 @@ class Command:
         findings = gatherer.findings
         findings.add_answer(self.program, made)
         hints = Hints(made, gatherer.zones.local_times, gatherer.users, gatherer.root).lines() if self.options.hints else None
-        self.output_lines(findings.lines(hints))
+        # A table that stands in several versions has its hints once.
+        self.output_lines(findings.lines(hints and dict.fromkeys(hints)))
         return 0 if findings.are_none() else 1
 
     def why(self, made):
@@ -138,7 +140,7 @@ class Command:
 
     def change(self, now):
         """Writes what a new table changes."""
-        file, new = split_change(self.options.change)
+        file, new = split_change(self.options.change[-1])
         due, streams = [], Once(self.streams)
         for name in (None, new):
             gatherer = Gatherer(self.options, self.environment, streams)
@@ -146,7 +148,13 @@ class Command:
             there = [table] if gatherer.root.has(table.path) else []
             made = gatherer.run_file_of([new_table(table, name)] if name else there, now)
             due.append(self.due_list(gatherer, made))
-        self.output_lines(change_lines(differences(*due), *map(Text, due)))
+        self.output_lines(change_lines(differences(due[:1], due[1:])))
+        return 0
+
+    def changes(self, made):
+        """Writes what the versions of a run file change, each from its instant on."""
+        old, *new = [self.due_list(self.gatherer, part) for part in changed_parts(made)]
+        self.output_lines(change_lines(differences([old], new)))
         return 0
 
     def output_lines(self, lines):

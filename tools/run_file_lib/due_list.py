@@ -45,8 +45,8 @@ class DueList:
         used = {zone, *(origin.zone for origin in self.origins.values() if origin.job.text and origin.times)}
         self.changes = {name: self.changes_of(name) for name in sorted(used)}
         # Of the part of the window that was answered last: what the tables' clock shows, as far as the program tells, and the jobs
-        # of anacrontabs.
-        self.clock, self.anacron = {}, []
+        # of anacrontabs. Where the window has no minute these are told all the same.
+        self.clock, self.anacron = {}, [name for name, origin in self.origins.items() if origin.section.kind == "anacrontab"]
 
     def origin(self, name, section, job):
         """The origin of a job of that name."""
@@ -125,8 +125,11 @@ class DueList:
         if not line.startswith("anacron "):
             match_of(JOB, line)
             return
-        self.anacron.append(match_of(ANACRON, line)[1])
-        self.found(self.anacron[-1])
+        name = match_of(ANACRON, line)[1]
+        self.found(name)
+        # In an answer of several versions the job stands once in each.
+        if name not in self.anacron:
+            self.anacron.append(name)
 
     def minutes(self, launches, changes):
         """The minutes of launches and of changes of clocks, in order."""

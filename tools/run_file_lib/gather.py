@@ -1,5 +1,6 @@
 """Gathers the zones, the tables and the script of a run file, and tells what it finds."""
 import os
+from functools import lru_cache
 
 from script_lib.plain import is_kept
 
@@ -9,11 +10,12 @@ from .findings import Findings
 from .labels import label_of
 from .machine_zone import MachineZone, machine_zone, other_zones
 from .options import head_of, number_of
-from .origins import RunFile, Script, Section, lines_of_sections, placed
+from .origins import RunFile, Script, Section, lines_of_versions, placed_versions
 from .places import MOST_BYTES, OPTION, SPOOL, Finder, Root, Table, read_file, read_regular
 from .stamps import MOST_DAYS, Clock, judge_length
 from .tables import LEFT_OUT, JobCount, TableReader, end_fault, lines_of, text_fault, told_once
 from .users import PASSWD, Users, orphan_note, split_users
+from .versions import versions_of
 from .zones import Zones
 
 # As many days as there are in the years of the program.
@@ -32,8 +34,10 @@ class Gatherer:
         self.cron = Cron(options.cron, "--cron") if options.cron else cron_of(self.root)
         self.zones = self.zones_of_the_run()
         self.zone = "UTC"
-        self.count = JobCount()
+        self.names = set()
         self.labels = set()
+        # What an option names may be a pipe, which can't be read again.
+        self.read_once = lru_cache(maxsize=None)(read_file)
         self.files = {}
         self.faults = 0
         self.findings = Findings(self.cron.name) if options.check else None
@@ -48,20 +52,21 @@ class Gatherer:
         self.comment(f"the cron is {called(self.cron.name)}, by {self.cron.source}")
         window = self.window_of_the_run(zone, now)
         head = head_of(self.options, window)
-        read = [self.section(table, zone) for table in (self.tables() if tables is None else tables)]
+        versions = versions_of(self, self.tables() if tables is None else tables, window)
         script = self.script()
         if self.faults:
             raise Stop(f"run_file: nothing is written, for {counted(self.faults, 'fault')}; --skip leaves out what is at fault")
         if not self.labels:
             self.comment("there is no table")
         front = [*head, *self.zones.lines()]
-        sections = list(placed([section for section in read if section], len(front) + 1))
-        lines = [*front, *lines_of_sections(sections), "script"]
+        versions = list(placed_versions(versions, len(front) + 1))
+        lines = [*front, *lines_of_versions(versions), "script"]
         data = "\n".join([*lines, *script.values(), "end", ""]).encode()
         if len(data) > MOST_BYTES:
             size = f"the run file would have {len(data):,} bytes, and the program takes {MOST_BYTES:,}"
             raise Stop(f"run_file: {caused(33, size)}")
-        return RunFile(data, sections, window, Script(self.options.script, len(lines) + 1, list(script)) if script else None)
+        script = Script(self.options.script, len(lines) + 1, list(script)) if script else None
+        return RunFile(data, [section for version in versions for section in version.sections], window, script, versions)
 
     def comment(self, text):
         """Tells what is no fault."""
@@ -103,7 +108,7 @@ class Gatherer:
         """The window, which may be a long one where the program isn't asked about all of it at once."""
         clock = Clock(zone, self.zones.local_times[zone])
         options = self.options
-        is_long = options.list or options.change
+        is_long = options.list or (options.change and not options.at)
         most = MOST_DAYS_OF_A_LIST if is_long else MOST_DAYS
         window = clock.window(options, now, 1 if options.days is None else number_of("--days", options.days, 1, most))
         if not is_long:
@@ -134,11 +139,15 @@ class Gatherer:
         """The tables that the options name, or else those of the root."""
         options = self.options
         if not options.system and not options.user and not options.anacron:
-            return Finder(self.root, self.cron.name, self.users, self.tell, self.tell_unreadable).tables()
+            return self.finder().tables()
         system = [Table("system", file, file, OPTION) for file in options.system]
         anacron = [Table("anacrontab", file, file, OPTION) for file in options.anacron]
         users = [self.user_table(name, file) for name, file in split_users(options.user)]
         return [*system, *users, *anacron]
+
+    def finder(self):
+        """What looks for the tables of the root."""
+        return Finder(self.root, self.cron.name, self.users, self.tell, self.tell_unreadable)
 
     def user_table(self, name, file):
         """The table of an option for a user, or for none."""
@@ -152,7 +161,7 @@ class Gatherer:
         """The bytes of a table; none where it can't be read, or was read already, which is told."""
         try:
             if table.origin == OPTION:
-                real, data = os.path.realpath(table.file), read_file(table.file)
+                real, data = os.path.realpath(table.file), self.read_once(table.file)
             else:
                 real, data = self.root.real(table.path), self.root.read(table.path)
         except OSError as fault:
@@ -178,8 +187,8 @@ class Gatherer:
             reasons.append((0, f"{shown(table.user)} isn't in {shown(self.root.shown(PASSWD))}"))
         return verdict._replace(reasons=sorted(reasons))
 
-    def section(self, table, zone):
-        """The section of a table; none where it can't be read, or the machine's cron ignores it."""
+    def section(self, table, zone, label=None):
+        """The section of a table; none where it can't be read, or the machine's cron ignores it. It may have a label already."""
         data = self.data_of(table)
         if data is None:
             return None
@@ -190,10 +199,10 @@ class Gatherer:
         elif verdict.reasons:
             self.tell_ignored(table.file, verdict.reasons)
             return None
-        label = label_of(table.path, self.labels)
+        label = label or label_of(table.path, self.labels)
         self.labels.add(label)
         lines = self.lines_for_the_program(table.file, lines_of(data), verdict)
-        reader = TableReader(table.kind, self.zones, self.count, table.user, self.options.check)
+        reader = TableReader(table.kind, self.zones, JobCount(self.names, label), table.user, self.options.check)
         reader.read(lines)
         fronts = {number: size for number, (_, size) in verdict.changed.items() if size}
         section = Section(table.kind, label, zone, table.file, 0, reader.kept, reader.jobs, fronts)

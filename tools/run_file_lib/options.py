@@ -9,6 +9,7 @@ from .stamps import MOST_DAYS, MOST_MINUTES, stamp_of
 
 MOST_REPLICAS = 7
 MOST_GRACE = 525_600
+MOST_CHANGES = 7
 NUMBER = re.compile("0|[1-9][0-9]{0,8}")
 
 ABOUT = """\
@@ -22,6 +23,8 @@ With --list or --check it hands the run file to the program, and shows the answe
 
   tools/run_file --list --days 7
   tools/run_file --check --user alice=my.crontab
+
+With --change and --at the run file has a version of the tables for each change.
 
 docs/MACHINE.md is the manual.
 """
@@ -63,8 +66,14 @@ OPTIONS = [
     (
         "--change",
         "FILE=NEWFILE",
-        "what is launched more, less and at another time once FILE has the lines of NEWFILE",
+        "what is launched more, less and at another time once FILE has the lines of NEWFILE; with --at may be repeated",
         "--change /etc/crontab=new",
+    ),
+    (
+        "--at",
+        "STAMP",
+        "with --change: a run file whose tables change then; with --list, what that changes",
+        "--change /etc/crontab=new --at 2027-03-28",
     ),
     ("--hints", None, "with --check: what a table says and hardly means, too, which is no fault", "--check --hints"),
     ("--json", None, "with --list or --next: each row as an object of JSON, one a line", "--list --json"),
@@ -77,6 +86,8 @@ OPTIONS = [
 # The options that ask for something in place of the run file.
 ANSWERS = ("list", "check", "why", "next", "change")
 LISTS = ("--user", "--system", "--anacron")
+# Each --change has its --at, if there is one.
+REPEATED = (*LISTS, "--change", "--at")
 DEFAULTS = {"--root": "/", "--grace": "0", "--replicas": "1"}
 
 
@@ -104,7 +115,7 @@ def parser():
             group.add_argument(word, action="store_true", help=text)
         elif " " in value:
             group.add_argument(word, nargs=2, metavar=tuple(value.split()), help=text)
-        elif word in LISTS:
+        elif word in REPEATED:
             group.add_argument(word, action="append", default=[], metavar=value, help=text)
         else:
             # `from` is a word of Python.
@@ -118,8 +129,10 @@ def options_of(words):
     options = parser().parse_args(words)
     if options.cron not in (None, *CRONS):
         raise Stop(f"run_file: --cron: `{shown(options.cron)}` is none of {', '.join(CRONS)}")
+    judge_changes(options)
     asked = [f"--{name}" for name in ANSWERS if getattr(options, name)]
-    if len(asked) > 1:
+    # A run file with versions is no answer, and may be listed and checked.
+    if len(asked) > 1 and not (options.at and asked[0] in ("--list", "--check") and asked[1:] == ["--change"]):
         raise Stop(f"run_file: {asked[0]} and {asked[1]} are two answers; take one of them")
     if options.hints and not options.check:
         raise Stop("run_file: --hints are a part of --check")
@@ -129,7 +142,19 @@ def options_of(words):
         raise Stop("run_file: --json and --csv are two forms; take one of them")
     if (options.json or options.csv) and not options.list and not options.next:
         raise Stop("run_file: --json and --csv are forms of --list and of --next")
+    if (options.json or options.csv) and options.change:
+        raise Stop("run_file: --json and --csv are no forms of what changes")
     return options
+
+
+def judge_changes(options):
+    """Judges how many options there are of changes, and of when each is."""
+    if options.at and not options.change:
+        raise Stop("run_file: --at is a part of --change")
+    if options.at and len(options.at) != len(options.change):
+        raise Stop(f"run_file: {len(options.change)} --change and {len(options.at)} --at are given; each --change has its --at")
+    if len(options.at) > MOST_CHANGES:
+        raise Stop(f"run_file: --at: {len(options.at)} changes are more than a run file has, which are {MOST_CHANGES} at most")
 
 
 def number_of(word, text, least, most):

@@ -1,8 +1,14 @@
 """Where the jobs and the lines of a run file come from."""
 from collections import namedtuple
+from itertools import takewhile
 
-# A run file: its bytes, its sections in order, its window, and its script, where it has one.
-RunFile = namedtuple("RunFile", "data sections window script", defaults=[None, None])
+from .stamps import stamp_of
+
+HEAD_LINES = 4
+# A run file: its bytes, its sections in order, its window, its script, where it has one, and its versions in order.
+RunFile = namedtuple("RunFile", "data sections window script versions", defaults=[None, None, ()])
+# A version of the tables: from which instant on it may be in force, none for the first one, and its sections.
+Version = namedtuple("Version", "first sections")
 # A script: its file, the line of the run file that is its first one, and the numbers in the file of the lines that the run file has.
 Script = namedtuple("Script", "file first numbers")
 # A section: its kind, label and zone, the file of its table, the line of the run file that is the table's first one, the lines
@@ -23,6 +29,22 @@ def placed(sections, first):
         first += 1 + len(section.lines)
 
 
+def placed_versions(versions, first):
+    """The versions with their sections placed, of which the first one begins at a line of the run file, and each other with its own."""
+    for version in versions:
+        first += version.first is not None
+        yield version._replace(sections=list(placed(version.sections, first)))
+        first += sum(1 + len(section.lines) for section in version.sections)
+
+
+def lines_of_versions(versions):
+    """The lines of the run file that the versions are."""
+    for number, version in enumerate(versions):
+        if version.first is not None:
+            yield f"version {number} {stamp_of(version.first)}"
+        yield from lines_of_sections(version.sections)
+
+
 def lines_of_sections(sections):
     """The lines of the run file that the sections are."""
     for section in sections:
@@ -39,11 +61,18 @@ def alone(made, section, job):
     """A run file of one job alone, which is the first one of its section: comments stand in place of the other jobs."""
     others = {other.line for other in section.jobs} - {job.line}
     lines = [COMMENT if number in others else line for number, line in enumerate(section.lines, 1)]
-    front = made.data.decode().split("\n")[: made.sections[0].first - 2]
     ending = job.ending if section.kind == "anacrontab" else ":1"
-    [placed_alone] = placed([section._replace(lines=lines, jobs=[job._replace(ending=ending)])], len(front) + 1)
-    text = "\n".join([*front, *lines_of_sections([placed_alone]), "script", "end", ""])
-    return made._replace(data=text.encode(), sections=[placed_alone], script=None)
+    return of_sections(made, [section._replace(lines=lines, jobs=[job._replace(ending=ending)])], made.window)
+
+
+def of_sections(made, sections, window):
+    """A run file of these sections alone, over a window, without a script. Its head and its zones are those of another one."""
+    lines = made.data.decode().split("\n")
+    zones = takewhile(lambda line: line.startswith("zone "), lines[HEAD_LINES:])
+    front = [*lines[:HEAD_LINES], *zones]
+    [version] = placed_versions([Version(None, sections)], len(front) + 1)
+    data = "\n".join([*front, *lines_of_sections(sections), "script", "end", ""]).encode()
+    return RunFile(data, version.sections, window, None, [version])
 
 
 def of_window(made, first, last):

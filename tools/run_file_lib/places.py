@@ -18,6 +18,7 @@ MOST_BYTES = 1_048_576
 MOST_LINKS = 40
 # The folders of users' crontabs: of Debian, of SUSE, and of Red Hat, where the two above may stand too.
 SPOOLS = ["/var/spool/cron/crontabs", "/var/spool/cron/tabs", "/var/spool/cron"]
+PACKAGED = "/etc/cron.d"
 NULL = "/dev/null"
 
 
@@ -126,7 +127,7 @@ class Finder:
     def tables(self):
         """Each table, in order: of the system, of users, and of anacron."""
         yield from self.single("system", "/etc/crontab")
-        yield from self.packaged("/etc/cron.d")
+        yield from self.packaged(PACKAGED)
         for spool in SPOOLS:
             yield from self.spooled(spool)
         yield from self.single("anacrontab", "/etc/anacrontab")
@@ -140,7 +141,7 @@ class Finder:
         """The system tables in a folder whose names cron takes."""
         for name in self.names_in(folder, PLACE):
             path = f"{folder}/{name}"
-            reason = why_no_name(self.cron, name)
+            reason = self.why_no_table(folder, name)
             if reason:
                 self.pass_over(path, reason)
             elif self.is_file(path) and not self.is_masked(path):
@@ -152,16 +153,25 @@ class Finder:
             path = f"{folder}/{name}"
             if path in SPOOLS:
                 continue
-            is_user = self.users.knows(name)
-            reason = why_passed_over(name, is_user)
-            if not reason and self.cron == DEBIAN and folder != DEBIAN_SPOOL:
-                reason = f"{called(DEBIAN)} reads {DEBIAN_SPOOL} alone"
+            reason = self.why_no_table(folder, name)
             if reason:
                 self.pass_over(path, reason)
             elif self.is_file(path) and not self.is_masked(path):
-                if self.cron == HEVTSORA and is_user is False:
+                if self.cron == HEVTSORA and self.users.knows(name) is False:
                     self.tell(self.root.shown(path), orphan_note(self.root, name))
                 yield Table("crontab", path, self.root.shown(path), SPOOL, name)
+
+    def why_no_table(self, folder, name):
+        """Why cron takes no table of that name in a folder; none where it takes one."""
+        if folder == PACKAGED:
+            return why_no_name(self.cron, name)
+        if folder not in SPOOLS:
+            return None
+        if self.cron == DEBIAN and folder != DEBIAN_SPOOL:
+            reads = f"{called(DEBIAN)} reads {DEBIAN_SPOOL} alone"
+        else:
+            reads = None
+        return why_passed_over(name, self.users.knows(name)) or reads
 
     def names_in(self, folder, origin):
         """The names in a folder; none where it can't be read, which is told."""

@@ -36,16 +36,18 @@ def end_fault(text):
 
 
 class JobCount:
-    """How many jobs the tables of a run have."""
+    """How many names the jobs of a run have. Those of a table begin with its label, and stand in each version of the tables for one."""
 
-    def __init__(self):
-        self.jobs = 0
+    def __init__(self, names=None, label=""):
+        self.names = set() if names is None else names
+        self.label = label
 
-    def fault_of_one_more(self):
+    def fault_of_one_more(self, job):
         """Counts a job; what is wrong where that is one too many."""
-        if self.jobs == MOST_JOBS:
+        name = self.label + job.ending
+        if name not in self.names and len(self.names) == MOST_JOBS:
             return caused(23, f"this job is one too many: a run has at most {MOST_JOBS:,}")
-        self.jobs += 1
+        self.names.add(name)
         return None
 
 
@@ -109,13 +111,14 @@ class TableReader:
         if self.bad_settings:
             line = min(self.bad_settings.values())
             return Trouble(number, f"it stands below line {line}, which can't be taken", True)
-        fault = self.count.fault_of_one_more()
+        job = self.judge.job_of(number, text, len(self.jobs) + 1)
+        fault = self.count.fault_of_one_more(job)
         if not fault:
-            self.add_job(number, text)
+            self.add_job(job, text)
         return Trouble(number, fault, False) if fault else None
 
-    def add_job(self, number, text):
+    def add_job(self, job, text):
         """Adds the job of a line."""
-        self.jobs.append(self.judge.job_of(number, text, len(self.jobs) + 1))
+        self.jobs.append(job)
         if self.judge.is_picked_by_label(text):
-            self.picked.append(number)
+            self.picked.append(job.line)
