@@ -1,9 +1,10 @@
 -- A step of a replica: what it is told, and what comes of it.
-use Rattle.std.specs.Prelude.{◌≡◌, ℕ, ◌<◌, ◌≤◌, ◌^◌, List, length, Option, None, Some, Result, Ok, Err, ⊤, ℤ}
+use Rattle.std.specs.Prelude.{◌≡◌, ℕ, ◌<◌, ◌≤◌, ◌^◌, List, [], length, Option, None, Some, Result, Ok, Err, ⊤, ℤ}
 use Rattle.std.specs.Option.{option_map, option_to_list}
 use Rattle.launch_machine.specs.Clerk.{table_size}
 use Rattle.paxos_letter.specs.Letters.{letter_fault_of}
 use Rattle.paxos_letter.specs.declared.fault.LetterFault.{LetterFault}
+use Rattle.term_core.specs.Term.{best_votes}
 use Rattle.zone_minutes.specs.Window.{IsInWindow}
 use Rattle.due_set.specs.Table.{Table}
 use Rattle.launch_machine.specs.Answers.{IsIntent}
@@ -16,7 +17,7 @@ use Rattle.step_spec.specs.Message.{Message}
 use Rattle.step_spec.specs.State.{prefix_of}
 use Rattle.step_spec.specs.Step.{Event, IsLaunchTable, Plan, step}
 use Rattle.step_spec.specs.Step as told
-use Rattle.replica_draft.specs.Draft.{delta_of, done, drafted}
+use Rattle.replica_draft.specs.Draft.{delta_of, done, drafted, with_best}
 use Rattle.replica_draft.specs.Letters.{AreLettersFrom}
 use Rattle.replica_core.specs.Replica.{IsSteadyAt, Makes, ReplicaState, own_identity, idle_in, fixed_in, replica_of_core, state_of, new_votes_of}
 use Rattle.replica_draft.specs.declared.draft.Draft.{Draft}
@@ -97,6 +98,15 @@ pub record PlansStep (table : Table) (input : Input) (replica : ReplicaState) (p
   pub event : Event
   pub event_is : IsEventOf table replica input event
   pub plans : Plans replica (step replica.identity event replica.state) planned
+
+-- a step of the replica in which nothing is planned yet
+pub record IsUnplanned (replica : ReplicaState) (planned : Planned) : Type 0 where
+  pub stands : drafted (fixed_in replica) planned.draft ≡ idle_in replica
+  pub best : planned.draft.best ≡ None
+  pub change : planned.draft.change ≡ None
+  pub call : planned.draft.call ≡ None
+  pub learnt : planned.draft.learnt.items ≡ []
+  pub term : with_best (best_votes replica.state.term) planned.draft.term ≡ replica.state.term
 
 -- a planned step can be taken by a replica that is as this one, but for its room: there is room for it, and what it brings is fit
 pub record CanTake (table : Table) (replica : ReplicaState) (planned : Planned) : Type 0 where

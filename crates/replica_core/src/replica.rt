@@ -1,4 +1,4 @@
-ghost use Rattle.std.specs.Prelude.{◌≡◌, ◌↔◌, ◌<◌, ◌≤◌, ◌^◌, IsTrue, List, IfOk, OnErr, length};
+ghost use Rattle.std.specs.Prelude.{◌≡◌, ◌↔◌, ◌<◌, ◌≤◌, ◌^◌, IsTrue, List, IfOk, OnErr, OnOk, length};
 ghost use Rattle.std.specs.Option.{option_copied, option_to_list};
 ghost use Rattle.launch_machine.specs.Clerk.{table_size};
 ghost use Rattle.paxos_base.specs.Rows.{RowsStand};
@@ -6,7 +6,7 @@ ghost use Rattle.step_spec.specs.Act.{Act};
 ghost use Rattle.step_spec.specs.Folds.{deltas_of};
 ghost use Rattle.step_spec.specs.State.{prefix_of, started};
 ghost use Rattle.replica_core.specs.Replica.{IsSmall, ReplicaState};
-ghost use Rattle.replica_core.specs.Step.{CanTake, IsSameReplica, IsInputInside, IsOfTable, Plans, PlansStep, Steps, Takes, fault_in, fault_told};
+ghost use Rattle.replica_core.specs.Step.{CanTake, IsSameReplica, IsInputInside, IsOfTable, IsUnplanned, Plans, PlansStep, Steps, Takes, fault_in, fault_told};
 
 use crate::input::{Input, StepFault};
 use crate::out::{Effects, StepOut};
@@ -15,7 +15,7 @@ use cron_io::OutOfMemory;
 use due_set::JobTable;
 use launch_machine::Machine;
 use paxos_base::{Delta, Durable};
-use replica_draft::Draft;
+use replica_draft::{Draft, LetterList};
 use std::marker::Model;
 use term_core::Term;
 
@@ -111,25 +111,46 @@ impl Replica {
         self.core.is_small()
     }
 
-    /// Plans a step, and makes the room that it needs. The replica stays as it is.
+    /// A step in which nothing is planned yet.
+    #[inline(always)]
+    pub fn begin(&self) -> Planned
+        ensures { IsUnplanned self.now result }
+    {
+        Planned {
+            draft: self.core.begin(),
+            effects: Effects {
+                delta: None,
+                letters: LetterList {
+                    items: Vec::new(self.core.alloc),
+                },
+            },
+        }
+    }
+
+    /// Plans a step in one in which nothing is planned yet, and makes the room that it needs. The replica stays as it is.
     ///
     /// # Errors
     ///
     /// Bytes that are no letter, or want of memory, where they are one. The replica stays as it is also then.
     #[inline(always)]
-    pub fn plan(&mut self, table: &JobTable, input: Input<'_>) -> Result<Planned, StepFault>
+    pub fn plan(
+        &mut self,
+        table: &JobTable,
+        input: Input<'_>,
+        planned: &mut Planned,
+    ) -> Result<(), StepFault>
+        requires idle { IsUnplanned self.old planned.old }
         requires of_table { IsOfTable table.now self.old }
         requires small { IsSmall self.old.state self.old.machine.rows }
         requires inside { IsInputInside table.now input }
         ensures alike { IsSameReplica self.new self.old }
-        ensures planned { IfOk result (λ planned. PlansStep table.now input.entry self.old planned) }
-        ensures can { IfOk result (λ planned. CanTake table.now self.new planned) }
+        ensures planned { OnOk result (PlansStep table.now input.entry self.old planned.new) }
+        ensures can { OnOk result (CanTake table.now self.new planned.new) }
         // The bytes of a letter are refused exactly where they break a rule, for the first that they break.
         ensures fault { fault_told result ≡ fault_in self.old.identity.members input.entry }
     {
-        let mut draft = self.core.begin();
-        let effects = self.core.prepare(table, &mut draft, input)?;
-        Ok(Planned { draft, effects })
+        planned.effects = self.core.prepare(table, &mut planned.draft, input)?;
+        Ok(())
     }
 
     /// Takes a step that it has planned. This needs no memory, and can't refuse.

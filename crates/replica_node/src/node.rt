@@ -197,7 +197,8 @@ impl<D: Disk> Node<D> {
             (D.view.told (disk_of self.new)) }
         ensures answer { HasNodeAnswer D.view (disk_of self.old) (disk_of self.new) result }
     {
-        let planned = self.replica.plan(table, input)?;
+        let mut planned = self.replica.begin();
+        self.replica.plan(table, input, &mut planned)?;
         match self.keep(planned.delta()) {
             Ok(()) => Ok(self.replica.complete(table, planned)),
             Err(NodeFault::Stopped) => {

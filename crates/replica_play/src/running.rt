@@ -111,7 +111,8 @@ impl<'a> Running<'a> {
     /// Plans a step, and doesn't take it. What it would change on the disk is written.
     pub fn plan(&mut self, input: Input<'_>, text: &mut Text) -> Result<(), Refusal> {
         self.test(&input)?;
-        let planned = self.replica.plan(self.table, input)?;
+        let mut planned = self.replica.begin();
+        self.replica.plan(self.table, input, &mut planned)?;
         text.put_plan(planned.delta())?;
         Ok(())
     }
@@ -119,7 +120,8 @@ impl<'a> Running<'a> {
     /// Plans a step, and then takes it. What it changes on the disk is written once it is planned.
     pub fn complete(&mut self, input: Input<'_>, text: &mut Text) -> Result<StepOut, Refusal> {
         self.test(&input)?;
-        let planned = self.replica.plan(self.table, input)?;
+        let mut planned = self.replica.begin();
+        self.replica.plan(self.table, input, &mut planned)?;
         text.put_plan(planned.delta())?;
         Ok(self.replica.complete(self.table, planned))
     }

@@ -140,11 +140,12 @@ fn change_of(
     if !replica.is_small() {
         return Err(OutOfMemory);
     }
-    let planned = match replica.plan(table, input) {
-        Ok(planned) => planned,
+    let mut planned = replica.begin();
+    match replica.plan(table, input, &mut planned) {
+        Ok(()) => {}
         Err(StepFault::Letter(_)) => return Ok(None),
         Err(StepFault::OutOfMemory) => return Err(OutOfMemory),
-    };
+    }
     match planned.delta() {
         Some(change) => Ok(Some(copy_of(change)?)),
         None => Ok(None),

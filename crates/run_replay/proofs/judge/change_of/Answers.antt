@@ -4,13 +4,12 @@ use Rattle.paxos_base.specs.declared.durable.Delta.{Delta}
 use Rattle.step_spec.specs.Step.{step}
 use Rattle.replica_core.specs.Step.{fault_in, fault_told}
 use Rattle.replica_core.specs.declared.input.StepFault.{StepFault}
-use Rattle.replica_core.specs.declared.replica.Planned.{Planned}
 use Rattle.run_replay.proofs.judge.change_of.Goals as goal
 
 pub returns-in-Err-Letter-clause-none : goal.returns-in-Err-Letter-clause-none
 returns-in-Err-Letter-clause-none c = inr (
   c.in-Err-Letter.field-0-0,
-  sym (subst (λ (fault : StepFault). fault_told {X = Planned} (Err fault) ≡ fault_in c.args.replica.now.identity.members c.args.input) c.in-Err-Letter.field-0-is c.in-Err-Letter.ensures.fault),
+  sym (subst (λ (fault : StepFault). fault_told {X = Unit} (Err fault) ≡ fault_in c.args.replica.now.identity.members c.args.input) c.in-Err-Letter.field-0-is c.in-Err-Letter.ensures.fault),
 )
 
 pub returns-in-Some-clause-some : goal.returns-in-Some-clause-some

@@ -36,11 +36,11 @@ keep-requires-clause-follows g c change is =
     let old = c.args.self.now.replica in
     let table = c.args.table.now in
     let rest = c.requires.at_rest in
-    let plans = c.in_ok-planned.ensures.planned in
+    let plans = c.in_ok-plan.ensures.planned in
     let told = c.delta.ensures old (step old.identity plans.event old.state) plans.plans in
     subst (λ size. ChangeMayFollow size c.plan.new.self.state.kept change) (sym rest.size)
-    (change_follows table c.args.input old c.plan.new.self c.in_ok-planned.planned (option_copied c.delta.result) change (few_members old.identity.me old.identity.members rest.member rest.few) rest.coherent rest.of_table
-    c.plan.ensures.alike plans c.in_ok-planned.ensures.can told is)
+    (change_follows table c.args.input old c.plan.new.self c.plan.new.planned (option_copied c.delta.result) change (few_members old.identity.me old.identity.members rest.member rest.few) rest.coherent rest.of_table
+    c.plan.ensures.alike plans c.in_ok-plan.ensures.can told is)
 
 -- ---- the change is saved
 
@@ -49,8 +49,8 @@ returns-in-Ok-clause-at_rest g c =
     let old = c.args.self.now in
     let kept = c.keep.new.self in
     let table = c.args.table.now in
-    let planned = c.in_ok-planned.planned in
-    let plans = c.in_ok-planned.ensures.planned in
+    let planned = c.plan.new.planned in
+    let plans = c.in_ok-plan.ensures.planned in
     let acts = step old.replica.identity plans.event old.replica.state in
     let told = c.delta.ensures old.replica acts plans.plans in
     let alike : IsSameReplica kept.replica old.replica = subst (λ (now : ReplicaState). IsSameReplica now old.replica) (sym c.keep.ensures.replica) c.plan.ensures.alike in
@@ -71,7 +71,7 @@ returns-in-Ok-clause-images g c honest =
     let table = c.args.table.now in
     let size = old.store.size in
     let delta = option_copied c.delta.result in
-    let plans = c.in_ok-planned.ensures.planned in
+    let plans = c.in_ok-plan.ensures.planned in
     let told = c.delta.ensures old.replica (step old.replica.identity plans.event old.replica.state) plans.plans in
     leaves_weaker g.D.Disk.view old.disk c.keep.new.self.disk (FilesStandForEither size now.state.kept (kept_after delta now.state.kept)) (FilesStandAround table c.args.input old.replica)
     (either_around table c.args.input old.replica now size delta plans.event plans.event_is c.plan.ensures.alike c.requires.at_rest.size told) (c.keep.ensures.images honest)
@@ -81,7 +81,7 @@ returns-in-Ok-clause-told g c =
     let old = c.args.self.now in
     let now = record old { replica = c.plan.new.self } in
     let delta = option_copied c.delta.result in
-    let plans = c.in_ok-planned.ensures.planned in
+    let plans = c.in_ok-plan.ensures.planned in
     let told = c.delta.ensures old.replica (step old.replica.identity plans.event old.replica.state) plans.plans in
     told_of_step c.args.table.now c.args.input old now plans.event delta (Ok c.complete.result) (g.D.Disk.view.told old.disk) (g.D.Disk.view.told c.keep.new.self.disk) plans.event_is told c.plan.ensures.alike refl
     (λ own stand. told_done of_disk_answer of_disk_answer (disk_calls_for now own delta) tt c.complete.result (g.D.Disk.view.told old.disk) (g.D.Disk.view.told c.keep.new.self.disk) (c.in-Ok.ensures.told own stand))
@@ -90,7 +90,7 @@ pub returns-in-Ok-clause-area : goal.returns-in-Ok-clause-area
 returns-in-Ok-clause-area g c change of =
     let old = c.args.self.now in
     let delta = option_copied c.delta.result in
-    let plans = c.in_ok-planned.ensures.planned in
+    let plans = c.in_ok-plan.ensures.planned in
     let changes = c.delta.ensures old.replica (step old.replica.identity plans.event old.replica.state) plans.plans in
     let one : change ≡ delta = one_change c.args.table.now c.args.input old.replica plans.event delta change plans.event_is changes of in
     subst (λ (d : Option Delta). area_of c.keep.new.self.store ≡ area_for d (area_of old.store)) (sym one) c.in-Ok.ensures.area
@@ -112,7 +112,7 @@ returns-in-Err-Stopped-clause-kept_by_arm g c change arm of is clean armed =
     let old = c.args.self.now in
     let rest = c.requires.at_rest in
     let delta = option_copied c.delta.result in
-    let plans = c.in_ok-planned.ensures.planned in
+    let plans = c.in_ok-plan.ensures.planned in
     let changes = c.delta.ensures old.replica (step old.replica.identity plans.event old.replica.state) plans.plans in
     let one : Some change ≡ delta = one_change c.args.table.now c.args.input old.replica plans.event delta (Some change) plans.event_is changes of in
     let failed : c.keep.result ≡ Err Node.Stopped = c.in-Err-Stopped.is ∙ ap Err c.in-Err-Stopped.field-0-is in
@@ -128,9 +128,9 @@ returns-in-Err-Stopped-clause-stopped g c some is =
     let now = c.plan.new.self in
     let table = c.args.table.now in
     let rest = c.requires.at_rest in
-    let planned = c.in_ok-planned.planned in
+    let planned = c.plan.new.planned in
     let delta = option_copied c.delta.result in
-    let plans = c.in_ok-planned.ensures.planned in
+    let plans = c.in_ok-plan.ensures.planned in
     let changes = c.delta.ensures old.replica (step old.replica.identity plans.event old.replica.state) plans.plans in
     let node = record c.keep.new.self { stopped = Some planned } in
     let alike : IsSameReplica node.replica old.replica = subst (λ (r : ReplicaState). IsSameReplica r old.replica) (sym c.keep.ensures.replica) c.plan.ensures.alike in
@@ -141,9 +141,9 @@ returns-in-Err-Stopped-clause-stopped g c some is =
     let stand : StandFor old.store.size (records_of old.store) now.state.kept own.0 = rw c.plan.ensures.alike.state own.1 in
     stopped_within g.D.Disk.view table c.args.input old.replica node planned delta
     (c.keep.ensures.ended (subst (λ (r : Result Unit NodeFault). EndsRun r) (sym failed) tt)) refl alike rest.of_table c.requires.small
-    (subst (λ (r : ReplicaState). CanTake table r planned) (sym c.keep.ensures.replica) c.in_ok-planned.ensures.can) plans changes (c.keep.ensures.changed stops)
+    (subst (λ (r : ReplicaState). CanTake table r planned) (sym c.keep.ensures.replica) c.in_ok-plan.ensures.can) plans changes (c.keep.ensures.changed stops)
     (λ change is_change. subst (λ (r : ReplicaState). ChangeMayFollow (table_size table) r.state.kept change) (sym c.keep.ensures.replica)
-    (change_follows table c.args.input old.replica now planned delta change (few_members old.replica.identity.me old.replica.identity.members rest.member rest.few) rest.coherent rest.of_table c.plan.ensures.alike plans c.in_ok-planned.ensures.can changes is_change))
+    (change_follows table c.args.input old.replica now planned delta change (few_members old.replica.identity.me old.replica.identity.members rest.member rest.few) rest.coherent rest.of_table c.plan.ensures.alike plans c.in_ok-plan.ensures.can changes is_change))
     (λ change is_change. planned_alters old.replica node.replica plans.event delta change (few_members old.replica.identity.me old.replica.identity.members rest.member rest.few) alike changes is_change)
     (tells_stopped (disk_calls_for mid own.0 delta) c.keep.result (g.D.Disk.view.told old.disk) (g.D.Disk.view.told node.disk) some stops (c.keep.ensures.told own.0 stand))
     (λ honest. subst (λ (r : ReplicaState). IsRecoverable (table_size table) r.state.kept (kept_after delta r.state.kept) (g.D.Disk.view.may_leave node.disk)) (sym c.keep.ensures.replica)
@@ -156,7 +156,7 @@ returns-in-Err-Stopped-clause-images g c honest =
     let table = c.args.table.now in
     let size = old.store.size in
     let delta = option_copied c.delta.result in
-    let plans = c.in_ok-planned.ensures.planned in
+    let plans = c.in_ok-plan.ensures.planned in
     let told = c.delta.ensures old.replica (step old.replica.identity plans.event old.replica.state) plans.plans in
     leaves_weaker g.D.Disk.view old.disk c.keep.new.self.disk (FilesStandForEither size now.state.kept (kept_after delta now.state.kept)) (FilesStandAround table c.args.input old.replica)
     (either_around table c.args.input old.replica now size delta plans.event plans.event_is c.plan.ensures.alike c.requires.at_rest.size told) (c.keep.ensures.images honest)
@@ -164,7 +164,7 @@ returns-in-Err-Stopped-clause-images g c honest =
 pub returns-in-Err-Stopped-clause-recoverable : goal.returns-in-Err-Stopped-clause-recoverable
 returns-in-Err-Stopped-clause-recoverable g c honest ends =
     let old = c.args.self.now in
-    let plans = c.in_ok-planned.ensures.planned in
+    let plans = c.in_ok-plan.ensures.planned in
     let told = c.delta.ensures old.replica (step old.replica.identity plans.event old.replica.state) plans.plans in
     recoverable_around c.args.table.now c.args.input old.replica c.plan.new.self old.store.size (option_copied c.delta.result) plans.event (g.D.Disk.view.may_leave c.keep.new.self.disk) plans.event_is c.plan.ensures.alike c.requires.at_rest.size
     told (c.keep.ensures.recoverable honest)
@@ -174,7 +174,7 @@ returns-in-Err-Stopped-clause-told g c =
     let old = c.args.self.now in
     let now = record old { replica = c.plan.new.self } in
     let delta = option_copied c.delta.result in
-    let plans = c.in_ok-planned.ensures.planned in
+    let plans = c.in_ok-plan.ensures.planned in
     let told = c.delta.ensures old.replica (step old.replica.identity plans.event old.replica.state) plans.plans in
     told_of_step c.args.table.now c.args.input old now plans.event delta (Err Node.Stopped) (g.D.Disk.view.told old.disk) (g.D.Disk.view.told c.keep.new.self.disk) plans.event_is told c.plan.ensures.alike refl
     (λ own stand. told_failed {U = StepOut} (disk_calls_for now own delta) Node.Stopped c.keep.result (Err Node.Stopped) (c.in-Err-Stopped.is ∙ ap Err c.in-Err-Stopped.field-0-is) refl (g.D.Disk.view.told old.disk) (g.D.Disk.view.told c.keep.new.self.disk)
@@ -203,7 +203,7 @@ returns-in-Err-clause-images g c honest =
     let table = c.args.table.now in
     let size = old.store.size in
     let delta = option_copied c.delta.result in
-    let plans = c.in_ok-planned.ensures.planned in
+    let plans = c.in_ok-plan.ensures.planned in
     let told = c.delta.ensures old.replica (step old.replica.identity plans.event old.replica.state) plans.plans in
     leaves_weaker g.D.Disk.view old.disk c.keep.new.self.disk (FilesStandForEither size now.state.kept (kept_after delta now.state.kept)) (FilesStandAround table c.args.input old.replica)
     (either_around table c.args.input old.replica now size delta plans.event plans.event_is c.plan.ensures.alike c.requires.at_rest.size told) (c.keep.ensures.images honest)
@@ -211,7 +211,7 @@ returns-in-Err-clause-images g c honest =
 pub returns-in-Err-clause-recoverable : goal.returns-in-Err-clause-recoverable
 returns-in-Err-clause-recoverable g c honest ends =
     let old = c.args.self.now in
-    let plans = c.in_ok-planned.ensures.planned in
+    let plans = c.in_ok-plan.ensures.planned in
     let told = c.delta.ensures old.replica (step old.replica.identity plans.event old.replica.state) plans.plans in
     recoverable_around c.args.table.now c.args.input old.replica c.plan.new.self old.store.size (option_copied c.delta.result) plans.event (g.D.Disk.view.may_leave c.keep.new.self.disk) plans.event_is c.plan.ensures.alike c.requires.at_rest.size
     told (c.keep.ensures.recoverable honest)
@@ -229,7 +229,7 @@ returns-in-Err-clause-told g c =
     let old = c.args.self.now in
     let now = record old { replica = c.plan.new.self } in
     let delta = option_copied c.delta.result in
-    let plans = c.in_ok-planned.ensures.planned in
+    let plans = c.in_ok-plan.ensures.planned in
     let told = c.delta.ensures old.replica (step old.replica.identity plans.event old.replica.state) plans.plans in
     told_of_step c.args.table.now c.args.input old now plans.event delta (Err c.in-Err.fault) (g.D.Disk.view.told old.disk) (g.D.Disk.view.told c.keep.new.self.disk) plans.event_is told c.plan.ensures.alike refl
     (λ own stand. told_failed {U = StepOut} (disk_calls_for now own delta) c.in-Err.fault c.keep.result (Err c.in-Err.fault) c.in-Err.is refl (g.D.Disk.view.told old.disk) (g.D.Disk.view.told c.keep.new.self.disk)
@@ -254,12 +254,12 @@ returns-in-Err-clause-ends_by_arm g c change arm of sure clean armed =
 
 -- ---- the step isn't planned
 
-pub returns-in_err-planned-clause-unfailing : goal.returns-in_err-planned-clause-unfailing
-returns-in_err-planned-clause-unfailing g c sure =
-    unfailing_planned c.in_err-planned.field-0.0 c.from_residual.result (g.D.Disk.view.told c.args.self.now.disk) c.from_residual.ensures.1 sure
+pub returns-in_err-plan-clause-unfailing : goal.returns-in_err-plan-clause-unfailing
+returns-in_err-plan-clause-unfailing g c sure =
+    unfailing_planned c.in_err-plan.field-0.0 c.from_residual.result (g.D.Disk.view.told c.args.self.now.disk) c.from_residual.ensures.1 sure
 
-pub returns-in_err-planned-clause-ends_by_arm : goal.returns-in_err-planned-clause-ends_by_arm
-returns-in_err-planned-clause-ends_by_arm g c change arm of sure clean armed =
+pub returns-in_err-plan-clause-ends_by_arm : goal.returns-in_err-plan-clause-ends_by_arm
+returns-in_err-plan-clause-ends_by_arm g c change arm of sure clean armed =
     let old = c.args.self.now.replica in
-    planned_ends (calls_of_change change) arm.left old.identity.members c.args.input c.in_err-planned.field-0.0 c.plan.result c.from_residual.result c.in_err-planned.was c.from_residual.ensures.1 c.plan.ensures.fault
+    planned_ends (calls_of_change change) arm.left old.identity.members c.args.input c.in_err-plan.field-0.0 c.plan.result c.from_residual.result c.in_err-plan.was c.from_residual.ensures.1 c.plan.ensures.fault
     (no_fault_in c.args.table.now old c.args.input of.event of.event_is)
