@@ -14,6 +14,7 @@ use world_steps::{Taken, calls_to_save, commit_step, note_step, reading_with};
 
 impl<D: Disk> World<D> {
     // The turn of a replica's step joins the book.
+    #[inline(always)]
     pub(crate) fn commit_taken(
         &mut self,
         table: &JobTable,
