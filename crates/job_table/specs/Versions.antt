@@ -1,6 +1,6 @@
 -- The versions of a run's tables: the sections of each, and its jobs under the names of all.
 -- Source: this project; the lines by docs/RUN_FILE.md, versions by docs/TABLES.md.
-use Rattle.std.specs.Prelude.{◌≡◌, ℕ, zero, suc, ℤ, List, [], ◌∷◌, ◌++◌, length, map, take, drop, zip, Option, None, Some, if◌then◌else◌, bytes_eq, slice_get}
+use Rattle.std.specs.Prelude.{◌≡◌, ℕ, zero, suc, ℤ, List, [], ◌∷◌, ◌++◌, length, map, take, drop, Option, None, Some, if◌then◌else◌, bytes_eq, slice_get}
 use Rattle.std.specs.List.{fold, list_any}
 use Rattle.due_set.specs.Table.{Job, Version, own_name}
 use Rattle.due_set.specs.declared.job.JobKind.TheVariants.{Never}
