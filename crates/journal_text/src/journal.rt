@@ -12,11 +12,10 @@ ghost use Rattle.world_law.specs.Book.{IsLegalBook};
 use crate::words::push_line;
 use cron_io::{OutOfMemory, Sink, write_all};
 use due_set::JobTable;
-use history::Turn;
 use report_text::{ReportFault, write_line, write_text};
 use std::alloc::Global;
 use std::fmt::Write;
-use world_law::Book;
+use world_law::{Book, TurnRow};
 
 // How many turns one write tells at most: some ten kilobytes, since a write of each line would take longer than its making.
 const GROUP: usize = 256;
@@ -41,7 +40,7 @@ fn put_turns(
     text: &mut String,
     table: &JobTable,
     first: u64,
-    turns: &[Turn],
+    turns: &[TurnRow],
 ) -> Result<(), OutOfMemory>
     requires told { All (CanBeTold table.now) turns.now }
     requires numbers { first + length turns.now < 2 ^ 64 }
@@ -49,7 +48,7 @@ fn put_turns(
 {
     text.clear();
     for (place, turn) in turns.iter().enumerate() {
-        push_line(text, table, first + place as u64, *turn)?;
+        push_line(text, table, first + place as u64, turn.turn())?;
     }
     Ok(())
 }
@@ -60,7 +59,7 @@ fn write_group<K: Sink>(
     text: &mut String,
     table: &JobTable,
     first: u64,
-    turns: &[Turn],
+    turns: &[TurnRow],
 ) -> Result<(), ReportFault>
     requires told { All (CanBeTold table.now) turns.now }
     requires numbers { first + length turns.now < 2 ^ 64 }
@@ -78,7 +77,7 @@ fn write_turns<K: Sink>(
     text: &mut String,
     table: &JobTable,
     first: u64,
-    turns: &[Turn],
+    turns: &[TurnRow],
 ) -> Result<(), ReportFault>
     requires told { All (CanBeTold table.now) turns.now }
     requires numbers { first + length turns.now < 2 ^ 64 }
@@ -115,7 +114,7 @@ fn write_part<K: Sink>(
     sink: &mut K,
     line: &mut String,
     table: &JobTable,
-    turns: &[Turn],
+    turns: &[TurnRow],
     starts: &[u64],
     place: usize,
 ) -> Result<(), ReportFault>
@@ -137,7 +136,7 @@ fn write_parts<K: Sink>(
     sink: &mut K,
     line: &mut String,
     table: &JobTable,
-    turns: &[Turn],
+    turns: &[TurnRow],
     starts: &[u64],
 ) -> Result<(), ReportFault>
     requires told { All (CanBeTold table.now) turns.now }

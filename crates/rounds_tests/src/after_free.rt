@@ -108,7 +108,7 @@ fn a_stop_is_the_last_turn(rt: HostRuntime) -> Result<(), Fail> {
         cause: Some(Cause::Campaign),
         kept: true,
     };
-    assert!(rt; turns.contains(&stop));
+    assert!(rt; turns.iter().any(|row| row.turn() == stop));
     assert!(rt; steps_of(turns, 1) == TURNS as usize);
     assert!(rt; turns.len() == TURNS as usize + 1);
     Ok(())

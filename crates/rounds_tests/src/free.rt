@@ -11,6 +11,7 @@ use std::sync::Wait;
 use std::test::*;
 use std::thread::Threads;
 use world_free::{TurnGate, run_free};
+use world_law::TurnRow;
 use world_rounds::World;
 use zone_minutes::Minute;
 
@@ -38,14 +39,14 @@ pub fn run_part<R: Threads + Wait + Sync, D: ArmedDisk + Send, G: TurnGate + Syn
 }
 
 // Whether the turn is a step of this replica.
-fn is_step_of(turn: &Turn, member: u8) -> bool {
-    match *turn {
+fn is_step_of(row: &TurnRow, member: u8) -> bool {
+    match row.turn() {
         Turn::Did { who, .. } => who == member,
         _ => false,
     }
 }
 
 /// How many of the turns are steps of this replica.
-pub fn steps_of(turns: &[Turn], member: u8) -> usize {
-    turns.iter().filter(|turn| is_step_of(turn, member)).count()
+pub fn steps_of(turns: &[TurnRow], member: u8) -> usize {
+    turns.iter().filter(|row| is_step_of(row, member)).count()
 }

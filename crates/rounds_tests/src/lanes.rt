@@ -12,7 +12,7 @@ use std::alloc::Global;
 use std::process::Abort;
 use std::test::*;
 use std::thread::Threads;
-use world_law::{Book, LetterRow};
+use world_law::{Book, LetterRow, TurnRow};
 use world_rounds::World;
 
 fn is_same_letter(one: &LetterRow, other: &LetterRow) -> bool {
@@ -32,10 +32,19 @@ fn are_same_letters(one: &[LetterRow], other: &[LetterRow]) -> bool {
     true
 }
 
+fn are_same_turns(one: &[TurnRow], other: &[TurnRow]) -> bool {
+    one.len() == other.len()
+        && one
+            .iter()
+            .zip(other)
+            .all(|(left, right)| left.turn() == right.turn())
+}
+
 /// Whether the books have the same turns, letters and held rows.
 pub fn is_same_book(one: &Book, other: &Book) -> bool {
-    let rows = one.turns() == other.turns() && one.ledger().held() == other.ledger().held();
-    rows && are_same_letters(one.letters(), other.letters())
+    let held = one.ledger().held() == other.ledger().held();
+    let turns = are_same_turns(one.turns(), other.turns());
+    held && turns && are_same_letters(one.letters(), other.letters())
 }
 
 // The world of three replicas after some commands, a letter that joined its mail again 512 times, and a round.

@@ -33,8 +33,8 @@ fn first_turns<R: Threads + Wait + Sync>(
     if gate.missed() > 0 || steps_of(turns, 0) != 3 || steps_of(turns, 1) != 3 {
         return Err(Fail::from("a wait in vain, or not three turns of each"));
     }
-    match *turns {
-        [one, two, three, four, ..] => Ok([one, two, three, four]),
+    match turns {
+        [one, two, three, four, ..] => Ok([one.turn(), two.turn(), three.turn(), four.turn()]),
         _ => Err(Fail::from("too few turns")),
     }
 }

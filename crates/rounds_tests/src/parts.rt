@@ -17,7 +17,7 @@ use std::alloc::Global;
 use std::process::Abort;
 use std::test::*;
 use std::thread::Threads;
-use world_law::Book;
+use world_law::{Book, TurnRow};
 use world_rounds::World;
 
 // Takes a world apart, and puts it together again.
@@ -67,8 +67,8 @@ fn other_place<R: Threads + Sync>(
 }
 
 // Whether the turn's call is late.
-fn is_late(turn: &Turn) -> bool {
-    match turn {
+fn is_late(row: &TurnRow) -> bool {
+    match row.turn() {
         Turn::Did {
             call: Some(call),
             ..
@@ -78,8 +78,8 @@ fn is_late(turn: &Turn) -> bool {
 }
 
 // Whether a disk stopped in the turn.
-fn is_stop_within_a_step(turn: &Turn) -> bool {
-    matches!(*turn, Turn::Stopped { cause: Some(_), .. })
+fn is_stop_within_a_step(row: &TurnRow) -> bool {
+    matches!(row.turn(), Turn::Stopped { cause: Some(_), .. })
 }
 
 // What a world is asked to do before and after it is taken apart.

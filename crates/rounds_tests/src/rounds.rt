@@ -117,6 +117,6 @@ fn a_clock_stays_within_the_window(rt: HostRuntime) -> Result<(), Fail> {
         call: None,
     };
     assert!(rt; turns.len() == 2);
-    assert!(rt; turns[1] == wanted);
+    assert!(rt; turns[1].turn() == wanted);
     Ok(())
 }

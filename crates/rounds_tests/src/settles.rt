@@ -23,7 +23,7 @@ fn a_stopped_replica_starts_again(rt: HostRuntime) -> Result<(), Fail> {
     };
     let turns = book.turns();
     assert!(rt; turns.len() > 1);
-    assert!(rt; turns[1] == Turn::Restarted { who: 2 });
+    assert!(rt; turns[1].turn() == Turn::Restarted { who: 2 });
     let held = book.ledger().held();
     assert!(rt; held == [launch].as_slice(), "{held:?}");
     Ok(())

@@ -8,7 +8,7 @@ use crate::jobs::MOST_MEMBERS;
 use cron_io::OutOfMemory;
 use history::Turn;
 use std::alloc::Global;
-use world_law::LetterRow;
+use world_law::{LetterRow, TurnRow};
 use world_steps::{MemberMail, reading_with};
 use zone_minutes::Minute;
 
@@ -50,10 +50,10 @@ pub(crate) fn mails_ended(
 }
 
 // The latest clock reading behind a turn.
-fn reading_after(turn: &Turn, latest: Minute) -> Minute
-    ensures latest { result.0 ≡ latest_after turn.now latest.0 }
+fn reading_after(turn: Turn, latest: Minute) -> Minute
+    ensures latest { result.0 ≡ latest_after turn latest.0 }
 {
-    match *turn {
+    match turn {
         Turn::Did { cause, .. } => reading_with(cause, latest),
         Turn::Stopped {
             cause: Some(cause),
@@ -64,12 +64,12 @@ fn reading_after(turn: &Turn, latest: Minute) -> Minute
 }
 
 /// The latest clock reading, with those of the turns from a number on.
-pub(crate) fn latest_reading(turns: &[Turn], first: usize, latest: Minute) -> Minute
+pub(crate) fn latest_reading(turns: &[TurnRow], first: usize, latest: Minute) -> Minute
     ensures latest { result.0 ≡ latest_by latest.0 (drop first turns.now) }
 {
     let mut reading = latest;
     'turns: for number in first..turns.len() {
-        reading = reading_after(&turns[number], reading);
+        reading = reading_after(turns[number].turn(), reading);
     }
     reading
 }

@@ -1,3 +1,4 @@
 pub mod Book
+pub mod Kept
 pub mod Replicas
 pub mod Rows

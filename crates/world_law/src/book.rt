@@ -8,6 +8,7 @@ ghost use Rattle.history.specs.Legal.{IsMade, MayFollow};
 ghost use Rattle.world_law.specs.Book.{Commits, HasCalled, HasRoom, IsSameBook, IsLegalBook, IsNext, IsRowOf, MakesCall, MayTickFor, StandsBehind, call_of, letter_rows, longest_of, standing_behind};
 
 use crate::letter::LetterRow;
+use crate::turn_row::{CallBox, TurnRow};
 use cluster_sched::{CallFault, Fate, Ledger, SchedRow, call_by_name};
 use cron_io::OutOfMemory;
 use due_set::JobTable;
@@ -21,7 +22,7 @@ use std::marker::Model;
 #[derive(Debug, Drop)]
 pub struct Book {
     members: u8,
-    turns: Vec<Turn>,
+    turns: Vec<TurnRow>,
     letters: Vec<LetterRow>,
     // The bytes of the longest letter, kept so that nobody has to go over all letters for them.
     longest: usize,
@@ -29,7 +30,8 @@ pub struct Book {
     // The numbers of the late calls that have arrived.
     arrived: Vec<u32>,
     // The call that the next turn carries, where one was made.
-    pending: Option<CallRow>,
+    pending: Option<CallBox>,
+    alloc: Global,
 }
 
 impl Model for Book {
@@ -71,11 +73,12 @@ impl Book {
             ledger: Ledger::new(alloc),
             arrived: Vec::new(alloc),
             pending: None,
+            alloc,
         }
     }
 
     /// The turns, in order.
-    pub fn turns(&self) -> &[Turn]
+    pub fn turns(&self) -> &[TurnRow]
         ensures { result.now ≡ self.now.turns }
     {
         self.turns.as_slice()
@@ -149,8 +152,15 @@ impl Book {
         ensures err { OnErr result (IsSameBook self.new self.old) }
         ensures room { (letters : ℕ) → HasRoom letters self.old → HasRoom letters self.new }
     {
+        let asked = CallRow {
+            row,
+            fate,
+            answer: None,
+        };
+        let mut kept = CallBox::new(self.alloc, asked)?;
         let made = call_ledger(&mut self.ledger, row, fate)?;
-        self.pending = Some(made);
+        kept.set(made);
+        self.pending = Some(kept);
         Ok(made)
     }
 
@@ -191,13 +201,13 @@ impl Book {
                 put_arrival(&mut self.arrived, late);
             }
         }
-        put_turn(&mut self.turns, turn);
-        self.pending = None;
+        let call = self.pending.take();
+        put_turn(&mut self.turns, TurnRow::new(turn, call));
     }
 }
 
 // Adds a turn, for which there is room.
-fn put_turn(turns: &mut Vec<Turn>, turn: Turn)
+fn put_turn(turns: &mut Vec<TurnRow>, turn: TurnRow)
     requires { vec_len turns.old < vec_capacity turns.old }
     ensures { turns.new.items ≡ turns.old.items ++ turn ∷ [] }
 {

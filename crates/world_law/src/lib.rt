@@ -15,6 +15,7 @@ mod book;
 mod laws;
 mod letter;
 mod row;
+mod turn_row;
 mod turns;
 
 pub use book::Book;
@@ -27,3 +28,4 @@ pub use laws::{
 };
 pub use letter::LetterRow;
 pub use row::BookRow;
+pub use turn_row::TurnRow;

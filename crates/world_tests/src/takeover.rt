@@ -1,6 +1,7 @@
 //! A takeover: a leader proposes a start and stops, another takes over, and the launch is called twice and held once.
 use crate::hour::{FROM, table_of_one};
 use crate::scene::{Scene, begin, play};
+use crate::turns::has_turns;
 use cluster_sched::{Fate, Name, SchedRow};
 use history::{CallRow, Cause, Turn};
 use paxos_base::{Entry, Kind};
@@ -170,7 +171,7 @@ fn letters_go(rt: &impl Abort, book: &Book) {
 }
 
 fn holds_once(rt: &impl Abort, book: &Book) {
-    assert_eq!(rt; book.turns(), TURNS);
+    assert!(rt; has_turns(book, TURNS));
     assert_eq!(rt; book.ledger().held(), [LAUNCH].as_slice());
     assert_eq!(rt; book.ledger().late(), [LAUNCH].as_slice());
     assert_eq!(rt; book.arrived(), [0].as_slice());

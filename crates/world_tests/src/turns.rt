@@ -44,12 +44,22 @@ const LAUNCHES: &[Turn] = &[
     },
 ];
 
+// Whether a book has just these turns.
+pub(crate) fn has_turns(book: &Book, wanted: &[Turn]) -> bool {
+    let rows = book.turns();
+    rows.len() == wanted.len()
+        && rows
+            .iter()
+            .zip(wanted)
+            .all(|(row, turn)| row.turn() == *turn)
+}
+
 fn is_from(letter: &LetterRow, to: u8) -> bool {
     letter.from == 0 && letter.to == to && letter.turn == 0
 }
 
 fn asks_both(rt: &impl Abort, book: &Book) {
-    assert_eq!(rt; book.turns(), [CAMPAIGN].as_slice());
+    assert!(rt; has_turns(book, &[CAMPAIGN]));
     assert_eq!(rt; book.letters().len(), 2);
     for (letter, to) in book.letters().iter().zip(1..3) {
         assert!(rt; is_from(letter, to));
@@ -66,7 +76,7 @@ fn a_campaign_is_a_turn_with_two_letters(rt: HostRuntime) -> Result<(), Fail> {
 }
 
 fn holds_launch(rt: &impl Abort, book: &Book) {
-    assert_eq!(rt; book.turns(), LAUNCHES);
+    assert!(rt; has_turns(book, LAUNCHES));
     assert_eq!(rt; book.ledger().held(), [LAUNCH].as_slice());
     assert!(rt; book.arrived().is_empty());
 }
