@@ -4,12 +4,11 @@
 Usage: bench/book.py [PROGRAM]
 
 PROGRAM is the built binary, crates/book_bench/out/book_bench by default. Each turn posts one letter. Of each number of
-turns a line has the most bytes that a run was resident in, what that is by the turn, and the best rate of five runs, in
-turns a second of the processor. The last line has by how many bytes a turn that grows between the two.
+turns a line has the most bytes that a run was resident in, as GNU time tells them, what that is by the turn, and the best
+rate of five runs, in turns a second of the processor. The last line has by how many bytes a turn that grows between the two.
 """
 import os
 import re
-import resource
 import subprocess
 import sys
 
@@ -17,35 +16,29 @@ ROOT = os.path.dirname(os.path.dirname(os.path.abspath(__file__)))
 PROGRAM = os.path.join(ROOT, "crates", "book_bench", "out", "book_bench")
 SIZES = (100_000, 1_000_000)
 TRIES = 5
-RATE = re.compile(r"(\d+) turns a second\n")
+TOLD = re.compile(r"(\d+) turns a second\npeak (\d+)\n")
 
 
-def rate(program, turns):
-    """How many of so many turns a run takes in a second."""
-    command = [program, str(turns)]
+def tried(program, turns):
+    """How many of so many turns a run takes in a second, and the most bytes that it was resident in. GNU time tells these, in units of
+    1,024: of a child of this script Linux counts what the script had when it started it, too."""
+    command = ["time", "-f", "peak %M", program, str(turns)]
     ended = subprocess.run(command, stdout=subprocess.DEVNULL, stderr=subprocess.PIPE, text=True, check=False)
     if ended.returncode != 0:
         sys.exit(f"{program} ended with status {ended.returncode}: {ended.stderr}")
-    told = RATE.fullmatch(ended.stderr)
+    told = TOLD.fullmatch(ended.stderr)
     if told is None:
         sys.exit(f"{program} wrote {ended.stderr!r}")
-    return int(told[1])
-
-
-def peak():
-    """The most bytes that a run has been resident in so far.
-
-    Linux tells it in units of 1,024, and counts what this script had when it started the run: some 14 million bytes, fewer
-    than the least run has."""
-    return 1024 * resource.getrusage(resource.RUSAGE_CHILDREN).ru_maxrss
+    return int(told[1]), 1024 * int(told[2])
 
 
 def tell(program):
-    """Prints what the runs took. The numbers of turns rise, so that the peak so far is that of the latest."""
+    """Prints what the runs took."""
     peaks = []
     for turns in SIZES:
-        best = max(rate(program, turns) for _ in range(TRIES))
-        peaks.append(peak())
+        tries = [tried(program, turns) for _ in range(TRIES)]
+        best = max(rate for rate, _ in tries)
+        peaks.append(max(peak for _, peak in tries))
         print(f"{turns:,} turns: {peaks[-1]:,} bytes, {peaks[-1] / turns:.0f} a turn; {best:,} turns a second")
     print(f"between the two: {(peaks[1] - peaks[0]) / (SIZES[1] - SIZES[0]):.0f} bytes a turn")
 

@@ -5,11 +5,11 @@ program in plain Rust that does the same work without a proof.
 Usage: bench/world.py [PROGRAM]
 
 PROGRAM is the built binary, crates/cron_cluster/out/cron_cluster by default. The run files are the one that is made from seed 7,
-with three replicas, 200 jobs and a script in which one replica after another stops; seven replicas over 1,000 jobs of 20
-launches each; and one replica that walks through 20,000 launches of one job. A line has the turns and the launches, the best
-rate of some runs, in turns a second of the processor, and the most bytes that a run was resident in, by the turn; then the same
-of bench/plain_world, which rustc builds, and which has to write the same report in as many turns. How many turns a run has was
-worked out by small_world (tools/small_world), which the gate compares with the program.
+with three replicas, 200 jobs and a script in which one replica after another stops; seven replicas over 1,000 jobs of 20 launches
+each; and one replica that walks through 20,000 launches of one job. A line has the turns and the launches, the best rate of some
+runs, in turns a second of the processor, and the most bytes that a run was resident in, as GNU time tells them, by the turn; then
+the same of bench/plain_world, which rustc builds, and which has to write the same report in as many turns. How many turns a run
+has was worked out by small_world (tools/small_world), which the gate compares with the program.
 
 Then come runs in which replicas run by themselves, in threads of their own, each beside a run of about as many turns in rounds:
 turns a second of the clock, the seconds of the processor by those of the clock, and bytes a turn. A thread that waits for its
@@ -71,15 +71,16 @@ def runs():
 
 
 def measured(words, source, sink, notes, status=0):
-    """The seconds of the processor of a run, which has to end with a status, and the most bytes that it was resident in. Linux tells
-    these in units of 1,024."""
+    """The seconds of the processor of a run, which has to end with a status, and the most bytes that it was resident in. GNU time
+    tells these, in units of 1,024: of a child of this script Linux counts what the script had when it started it, too."""
+    peak = f"{notes}.peak"
     with open(source, "rb") as stdin, open(sink, "wb") as stdout, open(notes, "wb") as stderr:
-        process = subprocess.Popen(words, stdin=stdin, stdout=stdout, stderr=stderr)
+        process = subprocess.Popen(["time", "-f", "%M", "-o", peak, *words], stdin=stdin, stdout=stdout, stderr=stderr)
         _, ended, usage = os.wait4(process.pid, 0)
     process.returncode = os.WEXITSTATUS(ended) if os.WIFEXITED(ended) else -os.WTERMSIG(ended)
     if process.returncode != status:
         sys.exit(f"{' '.join(words)} ended with status {process.returncode}")
-    return usage.ru_utime + usage.ru_stime, 1024 * usage.ru_maxrss
+    return usage.ru_utime + usage.ru_stime, 1024 * int(text_of(peak).split()[-1])
 
 
 def text_of(path):
