@@ -64,6 +64,7 @@ pub fn first_call(
 }
 
 /// The first job whose start would take effect, and its launch.
+#[inline(always)]
 pub fn first_start(
     rows: &[JobRow],
     starts: &LeastTree,

@@ -110,6 +110,7 @@ impl<'a> FieldsAt<'a> {
     }
 
     // Of the other fields, those are 0 that the packet's entry or row has no use for.
+    #[inline(always)]
     fn keeps_other_zeros(&self) -> bool
         ensures { result ≡ list_all (keeps_zero self.now) other_fields }
     {

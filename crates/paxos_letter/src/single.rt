@@ -12,6 +12,7 @@ use crate::packet::Packet;
 use paxos_base::PACKET_BYTES;
 
 /// The bytes of a replica's packet.
+#[inline(always)]
 pub fn packet_bytes(from: u8, packet: &Packet) -> [u8; PACKET_BYTES]
     ensures spelled { result ≡ packet_bytes from packet.now }
     ensures fits { FitPacketFields (fields_of from packet.now) }
@@ -21,6 +22,7 @@ pub fn packet_bytes(from: u8, packet: &Packet) -> [u8; PACKET_BYTES]
 
 /// The packet of a sender, one of that many replicas, that is spelled so: None exactly where the bytes are of another
 /// sender or break a rule that a packet keeps by itself.
+#[inline(always)]
 pub fn packet_in(bytes: &[u8; PACKET_BYTES], members: u8, sender: u8) -> Option<Packet>
     requires few { members ≤ 7 }
     ensures found { IfSome result (λ packet. SpellsPacket members sender packet bytes.now) }

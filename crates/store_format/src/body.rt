@@ -125,6 +125,7 @@ fn record_of(kind: u8, packet: &Packet) -> Option<Record>
 }
 
 /// The record that has these bytes: None exactly where no record has them.
+#[inline(always)]
 pub fn record_in(bytes: &[u8; PACKET_BYTES]) -> Option<Record>
     ensures found { IfSome result (λ item. IsRecord bytes.now item) }
     ensures only { (item : Record) → IsRecord bytes.now item → result ≡ Some item }

@@ -56,6 +56,7 @@ pub fn call_for(
 /// # Errors
 ///
 /// Want of memory. The book has no turn more then, and is legal.
+#[inline(always)]
 pub fn commit_step(
     book: &mut Book,
     table: &JobTable,
