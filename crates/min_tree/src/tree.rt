@@ -88,6 +88,19 @@ impl LeastTree {
         ensures found { IfSome result (IsFirstAtMost self.now from limit) }
         ensures none { IfNone result (HasNoneAtMost self.now from limit) }
     {
+        // Most calls find none, and the least alone tells it.
+        if is_at_most(self.least(), limit) {
+            self.climb(from, limit)
+        } else {
+            None
+        }
+    }
+
+    // The same, by the nodes to the right of a leaf and above.
+    fn climb(&self, from: usize, limit: i64) -> Option<usize>
+        ensures found { IfSome result (IsFirstAtMost self.now from limit) }
+        ensures none { IfNone result (HasNoneAtMost self.now from limit) }
+    {
         let count = self.len();
         if from >= count {
             return None;

@@ -1,6 +1,6 @@
 use Rattle.std.proofs.Common.{◌-◌}
 use Rattle.min_tree.proofs.ClimbLemmas.{IsClimb}
-use Rattle.min_tree.proofs.tree.LeastTree.first_at_most.Given as goal
+use Rattle.min_tree.proofs.tree.LeastTree.climb.Given as goal
 
 abbrev pub invariant-loop-start : goal.invariant-loop-start
 invariant-loop-start l = IsClimb l.self-inside.width l.self-inside.nodes.items l.from l.limit l.node l.span l.start
