@@ -12,7 +12,7 @@ use Rattle.zone_minutes.specs.Calendar.{Date, date_after, date_of_day, next_date
 use Rattle.zone_minutes.specs.Civil.{civil_at, day_number, minute_of_day, weekday_of, IsCalendarMinute}
 use Rattle.zone_minutes.specs.declared.civil.Civil.{Civil}
 use Rattle.due_set.specs.Due.{Matches, MatchesDateAt}
-use Rattle.due_set.specs.Matching.{IsNextTime, IsFirstMatch, MatchNoneOf, rest_of_day}
+use Rattle.due_set.specs.Matching.{IsNextTime, IsFirstMatch, MatchNoneOf, MatchNoneOfDays, rest_of_day}
 
 -- ---- a day
 
@@ -70,28 +70,57 @@ date_after-later days (suc steps) date is le =
     let day_is : date.day + steps + 1 ≡ date.day + suc steps = omega arith in
     ap date_after one_more ∙ next ∙ ap (with_day date) day_is
 
-month-same : (day : ℤ) (steps : ℕ) → negsuc 719_527 ≤ℤ day → (date_of_day day).day + steps ≤ days_in_month (pos (date_of_day day).year) (date_of_day day).month
-    → (date_of_day (day +ℤ pos steps)).month ≡ (date_of_day day).month
-month-same day steps since le =
+date_of_day-later : (day : ℤ) (steps : ℕ) → negsuc 719_527 ≤ℤ day → (date_of_day day).day + steps ≤ days_in_month (pos (date_of_day day).year) (date_of_day day).month
+    → date_of_day (day +ℤ pos steps) ≡ with_day (date_of_day day) ((date_of_day day).day + steps)
+date_of_day-later day steps since le =
     let days : unsigned_abs (day +ℤ pos steps +ℤ pos 719528) ≡ unsigned_abs (day +ℤ pos 719528) + steps =
     omega (arith, signed_arith, since, one_part (day +ℤ pos 719528), one_part (day +ℤ pos steps +ℤ pos 719528)) in
-    let is = date_after-later (unsigned_abs (day +ℤ pos 719528)) steps (date_of_day day) refl le in
-    ap (λ (n : ℕ). (date_after n).month) days ∙ ap (λ (d : Date). d.month) is
+    ap date_after days ∙ date_after-later (unsigned_abs (day +ℤ pos 719528)) steps (date_of_day day) refl le
+
+-- so many days later is so many weekdays later
+weekday_of-later : (day : ℤ) (steps : ℕ) → weekday_of (day +ℤ pos steps) ≡ (weekday_of day + steps) % 7
+weekday_of-later day steps = omega (arith, signed_arith, one_part (int_rem_euclid (day +ℤ pos 4) (pos 7)), one_part (int_rem_euclid (day +ℤ pos steps +ℤ pos 4) (pos 7)))
 
 -- so many minutes later is so many days later
 day_number-later : (minute : ℤ) (steps : ℕ) → day_number (minute +ℤ pos steps) ≡ day_number minute +ℤ pos ((minute_of_day minute + steps) / 1440)
 day_number-later minute steps = omega (arith, signed_arith, one_part (int_rem_euclid minute (pos 1440)))
 
-pub month_on : (minute : ℤ) (civil : Civil) (steps days : ℕ) → IsCalendarMinute minute → civil ≡ civil_at minute → civil.day + days ≤ days_in_month civil.year civil.month
-    → steps < days * 1440 + rest_of_day minute → (civil_at (minute +ℤ pos steps)).month ≡ (civil_at minute).month
-month_on minute civil steps days within civil_is le lt =
-    let below = minute_of_day-below minute in
-    let le_at : (civil_at minute).day + days ≤ days_in_month (civil_at minute).year (civil_at minute).month =
-    subst (λ (c : Civil). c.day + days ≤ days_in_month c.year c.month) civil_is le in
-    let later : ℕ = (minute_of_day minute + steps) / 1440 in
-    let few : later ≤ days = omega arith in
-    ap (λ (d : ℤ). (date_of_day d).month) (day_number-later minute steps)
-    ∙ month-same (day_number minute) later (omega (arith, signed_arith, within)) (omega (arith, le_at, few))
+-- what is left of the day, and days of the month after it of which the fields match none
+pub MatchNoneOf-days : (fields : Fields) (minute : ℤ) (civil : Civil) (weekday days : ℕ) → IsCalendarMinute minute → civil ≡ civil_at minute → weekday ≡ weekday_of (day_number minute)
+    → civil.day + days ≤ days_in_month civil.year civil.month → MatchNoneOfDays fields civil weekday days → MatchNoneOf fields minute (rest_of_day minute)
+    → MatchNoneOf fields minute (days * 1440 + rest_of_day minute)
+MatchNoneOf-days fields minute civil weekday days within civil_is weekday_is le none none_of_day steps lt m =
+    elim (cases_lt steps (rest_of_day minute)) [
+      | inl today ↦ none_of_day steps today m
+      | inr from ↦ none later (omega (arith, below)) few (subst (λ (w : ℕ). MatchesDate fields civil.month (civil.day + later) w) then_weekday on_then)
+    ]
+  where
+    below : minute_of_day minute < 1440
+    below = minute_of_day-below minute
+
+    later : ℕ
+    later = (minute_of_day minute + steps) / 1440
+
+    few : later ≤ days
+    few = omega (arith, lt, below)
+
+    le_at : (civil_at minute).day + days ≤ days_in_month (civil_at minute).year (civil_at minute).month
+    le_at = subst (λ (c : Civil). c.day + days ≤ days_in_month c.year c.month) civil_is le
+
+    on : MatchesDate fields (date_of_day (day_number minute +ℤ pos later)).month (date_of_day (day_number minute +ℤ pos later)).day (weekday_of (day_number minute +ℤ pos later))
+    on = subst (λ (d : ℤ). MatchesDate fields (date_of_day d).month (date_of_day d).day (weekday_of d)) (day_number-later minute steps) m.date
+
+    then : date_of_day (day_number minute +ℤ pos later) ≡ with_day (date_of_day (day_number minute)) ((date_of_day (day_number minute)).day + later)
+    then = date_of_day-later (day_number minute) later (omega (arith, signed_arith, within)) (omega (arith, le_at, few))
+
+    on_date : MatchesDate fields (civil_at minute).month ((civil_at minute).day + later) (weekday_of (day_number minute +ℤ pos later))
+    on_date = subst (λ (d : Date). MatchesDate fields d.month d.day (weekday_of (day_number minute +ℤ pos later))) then on
+
+    on_then : MatchesDate fields civil.month (civil.day + later) (weekday_of (day_number minute +ℤ pos later))
+    on_then = subst (λ (c : Civil). MatchesDate fields c.month (c.day + later) (weekday_of (day_number minute +ℤ pos later))) (sym civil_is) on_date
+
+    then_weekday : weekday_of (day_number minute +ℤ pos later) ≡ (weekday + later) % 7
+    then_weekday = weekday_of-later (day_number minute) later ∙ ap (λ (w : ℕ). (w + later) % 7) (sym weekday_is)
 
 -- ---- one stretch after another
 

@@ -1,10 +1,11 @@
 -- The next civil minute that an entry's fields match, by its fields, its day and its month.
-use Rattle.std.specs.Prelude.{ℕ, ◌-◌, ◌/◌, ◌%◌, ◌<◌, ◌≤◌, ℤ, pos, ◌+ℤ◌}
+use Rattle.std.specs.Prelude.{ℕ, ◌+◌, ◌-◌, ◌/◌, ◌%◌, ◌<◌, ◌≤◌, ℤ, pos, ◌+ℤ◌}
 use Rattle.cron_fields.specs.FieldSet.{Has}
-use Rattle.cron_fields.specs.Match.{MatchesTime}
+use Rattle.cron_fields.specs.Match.{MatchesDate, MatchesTime}
 use Rattle.cron_fields.specs.declared.field.FieldSet.{FieldSet}
 use Rattle.cron_fields.specs.declared.field.Fields.{Fields}
 use Rattle.zone_minutes.specs.Civil.{minute_of_day}
+use Rattle.zone_minutes.specs.declared.civil.Civil.{Civil}
 use Rattle.due_set.specs.Due.{Matches}
 
 -- the field has no value from one on and before another
@@ -31,6 +32,11 @@ pub record IsNextTime (fields : Fields) (from time : ℕ) : Type 0 where
 -- the fields match none of so many civil minutes from one on
 abbrev pub MatchNoneOf : Fields → ℤ → ℕ → Type 0
 MatchNoneOf fields minute count = (steps : ℕ) → steps < count → Matches fields (minute +ℤ pos steps) → ⊥
+
+-- the fields match none of so many dates that follow a date of this weekday, by their day of the month and their weekday
+abbrev pub MatchNoneOfDays : Fields → Civil → ℕ → ℕ → Type 0
+MatchNoneOfDays fields date weekday count =
+    (days : ℕ) → 0 < days → days ≤ count → MatchesDate fields date.month (date.day + days) ((weekday + days) % 7) → ⊥
 
 -- the first civil minute that the fields match is so many minutes after one
 pub record IsFirstMatch (fields : Fields) (minute : ℤ) (steps : ℕ) : Type 0 where

@@ -1,8 +1,7 @@
 //! When an entry of a crontab is due, by the definition alone.
 ghost use Rattle.std.specs.Prelude.{◌≡◌, ◌↔◌, ℤ, pos, ◌+ℤ◌, ◌-ℤ◌, ◌≤ℤ◌, ◌<ℤ◌, IsTrue};
 ghost use Rattle.jiff.specs.Types.{TimeZone};
-ghost use Rattle.cron_fields.specs.FieldSet.{Has};
-ghost use Rattle.zone_minutes.specs.Civil.{IsCalendarMinute, civil_at};
+ghost use Rattle.zone_minutes.specs.Civil.{IsCalendarMinute};
 ghost use Rattle.zone_minutes.specs.Zone.{IsReadAs, IsReadable, local_of};
 ghost use Rattle.due_set.specs.Due.{Matches, MatchesDateAt, IsFirstShown, IsSkipped, IsDueOnce, IsDueIn};
 
@@ -26,14 +25,6 @@ pub fn matches_date(fields: &Fields, minute: i64) -> bool
 {
     let civil = civil_of(minute);
     fields.matches_date(civil.month, civil.day, weekday_of(day_of(minute)))
-}
-
-/// Whether the month field has a civil minute's month.
-pub fn matches_month(fields: &Fields, minute: i64) -> bool
-    requires { IsCalendarMinute minute }
-    ensures { IsTrue result ↔ Has fields.now.month (civil_at minute).month }
-{
-    fields.month.has(civil_of(minute).month)
 }
 
 // The instant some minutes before another.

@@ -1,13 +1,14 @@
 //! The next civil minute that an entry's fields match: a month that doesn't match is passed over as a whole, and so is a
 //! day, and in a day that does the hour and the minute are the lowest bits that are left of their fields.
 ghost use Rattle.std.specs.Prelude.{◌≡◌, ◌<◌, ◌≤◌, ◌+◌, ◌*◌, ℕ, ℤ, pos, negsuc, ◌+ℤ◌, ◌≤ℤ◌, IfSome, IfNone};
-ghost use Rattle.zone_minutes.specs.Civil.{IsCalendarMinute, civil_at};
-ghost use Rattle.due_set.specs.Matching.{HasNoneBetween, IsNextValue, IsNextTime, MatchNoTimeBetween, IsFirstMatch, MatchNoneOf, rest_of_day};
+ghost use Rattle.jiff_core.specs.Calendar.{IsCivilDate, days_in_month};
+ghost use Rattle.zone_minutes.specs.Civil.{IsCalendarMinute};
+ghost use Rattle.due_set.specs.Matching.{HasNoneBetween, IsNextValue, IsNextTime, MatchNoTimeBetween, IsFirstMatch, MatchNoneOf, MatchNoneOfDays, rest_of_day};
 
-use crate::due::{matches_date, matches_month};
+use crate::due::matches_date;
 use cron_fields::{FieldSet, Fields};
 use jiff_core::civil::days_in_month;
-use zone_minutes::civil_of;
+use zone_minutes::{Civil, civil_of, day_of, weekday_of};
 
 /// How many minutes after a civil minute the first one comes that the fields match, if fewer than so many.
 pub fn minutes_to_match(fields: &Fields, from: i64, count: u32) -> Option<u32>
@@ -107,7 +108,8 @@ fn next_value(field: FieldSet, from: u8, end: u8) -> Option<u8>
     if value < end { Some(value) } else { None }
 }
 
-// Of how many minutes from a civil minute on the fields match none, where they match none of what is left of its day.
+// Of how many minutes from a civil minute on the fields match none, where they match none of what is left of its day: up to
+// the next day of its month whose date they match, or to the month's end.
 fn minutes_passed_over(fields: &Fields, minute: i64) -> u32
     requires calendar { IsCalendarMinute minute }
     requires none { MatchNoneOf fields.now minute (rest_of_day minute) }
@@ -115,11 +117,28 @@ fn minutes_passed_over(fields: &Fields, minute: i64) -> u32
     ensures month { result ≤ 44_640 }
     ensures none { MatchNoneOf fields.now minute result }
 {
-    if matches_month(fields, minute) {
-        minutes_of_day(minute)
-    } else {
-        minutes_of_month(minute)
+    let days = days_passed_over(fields, civil_of(minute), weekday_of(day_of(minute)));
+    u32::from(days) * 1440 + minutes_of_day(minute)
+}
+
+// How many days of its month follow a date at once that the fields don't match.
+fn days_passed_over(fields: &Fields, date: Civil, weekday: u8) -> u8
+    requires date { IsCivilDate date.year date.month date.day }
+    requires weekday { weekday < 7 }
+    ensures month { date.day + result ≤ days_in_month date.year date.month }
+    ensures none { MatchNoneOfDays fields.now date weekday result }
+{
+    let left = days_in_month(date.year, date.month) - date.day;
+    if !fields.month.has(date.month) {
+        return left;
     }
+    for days in 0..left {
+        let weekday_then = (weekday + days + 1) % 7;
+        if fields.matches_date(date.month, date.day + days + 1, weekday_then) {
+            return days;
+        }
+    }
+    left
 }
 
 /// How many minutes are left of a civil minute's day, with the minute itself.
@@ -129,16 +148,4 @@ pub fn minutes_of_day(minute: i64) -> u32
     ensures day { result ≤ 1440 }
 {
     1440 - minute.rem_euclid(1440) as u32
-}
-
-// How many minutes are left of a civil minute's month, with the minute itself.
-fn minutes_of_month(minute: i64) -> u32
-    requires { IsCalendarMinute minute }
-    ensures some { 0 < result }
-    ensures month { result ≤ 44_640 }
-    ensures same { (steps : ℕ) → steps < result → (civil_at (minute +ℤ pos steps)).month ≡ (civil_at minute).month }
-{
-    let civil = civil_of(minute);
-    let days_after = days_in_month(civil.year, civil.month) - civil.day;
-    u32::from(days_after) * 1440 + minutes_of_day(minute)
 }
