@@ -30,7 +30,9 @@ use disk_model::{Disk, FileNo, write_synced};
 use gate_file::{GateFile, ReadGates};
 use paxos_base::{Delta, Durable, RowList, TableSize};
 use std::alloc::Global;
-use store_format::{begins_in_format_1, delta_record, read_records, record_bytes, write_base};
+use store_format::{
+    begins_in_format_1, delta_record, read_beside_rows, read_records, record_bytes, write_base,
+};
 
 /// What a replica keeps on its disk.
 #[derive(Debug, Drop)]
@@ -284,7 +286,7 @@ impl Store {
             → AreRecords (map record_bytes (base_records kept own slot rows.now)) (base_records kept own slot rows.now) }
         ensures answer { HasStoreAnswer D.view disk.old disk.new result }
     {
-        let (kept, own) = read_records(self.alloc, self.size, self.gates.bodies())?;
+        let (kept, own) = read_beside_rows(self.alloc, self.size, self.gates.bodies())?;
         let bodies = write_base(self.alloc, &kept, own, slot, rows)?;
         let other = other_area(self.gates.file());
         Ok(GateFile::rewrite(self.alloc, disk, other, bodies)?)

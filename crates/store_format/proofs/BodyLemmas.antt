@@ -1,9 +1,9 @@
 -- Bodies, and the first of them that is at fault.
-use Rattle.std.proofs.Common.{◌≡◌, ℕ, true, ◌+◌, ◌-◌, ◌<◌, ◌≤◌, ◌^◌, Option, Some, None, List, [], ◌∷◌, ◌++◌, length, map, take, drop, refl, sym, ap, ◌∙◌, subst, inl, inr, arith, append_assoc}
+use Rattle.std.proofs.Common.{◌≡◌, ℕ, true, ◌+◌, ◌-◌, ◌<◌, ◌≤◌, ◌^◌, Option, Some, None, List, [], ◌∷◌, ◌++◌, length, map, take, drop, get_or, refl, sym, ap, ◌∙◌, subst, inl, inr, arith, append_assoc}
 use Rattle.std.specs.Option.{option_or}
 use Rattle.std.specs.List.{filter_map, last_or}
 use Rattle.std.proofs.lemmas.Bool.{cases_order, false≢true}
-use Rattle.std.proofs.lemmas.List.{append-nil, take-append-drop, take-take, take_all}
+use Rattle.std.proofs.lemmas.List.{append-nil, get_or_read, take-append-drop, take-take, take_all, take_more}
 use Rattle.std.proofs.lemmas.List.Elements.{filter_map-append}
 use Rattle.std.proofs.lemmas.Option.{none-some, same_Some}
 use Rattle.paxos_base.specs.declared.rows.TableSize.{TableSize}
@@ -57,6 +57,11 @@ AreRecords-same (body ∷ bodies) [] others a b = absurd a
 AreRecords-same (body ∷ bodies) (item ∷ items) [] a b = absurd b
 AreRecords-same (body ∷ bodies) (item ∷ items) (other ∷ others) a b =
     ap (λ (i : Record). i ∷ items) (IsRecord-same body item other a.0 b.0) ∙ ap (λ (is : List Record). other ∷ is) (AreRecords-same bodies items others a.1 b.1)
+
+-- the bodies up to one, and that one, by the bytes that it has
+pub up_to : (bodies : List (List ℕ)) (k : ℕ) (item body : List ℕ) → k < length bodies → item ≡ get_or bodies k item → body ≡ item → take (k + 1) bodies ≡ take k bodies ++ body ∷ []
+up_to bodies k item body within is same =
+    take_more bodies k [] within ∙ ap (λ (last : List ℕ). take k bodies ++ last ∷ []) (sym (same ∙ get_or_read bodies k item within is []))
 
 -- ---- the replica's own ballot
 

@@ -8,6 +8,7 @@ pub mod FormatLemmas
 pub mod GroupLemmas
 pub mod LogLemmas
 pub mod Machine
+pub mod PassLemmas
 pub mod RecordLemmas
 pub mod SoundLemmas
 pub mod StandLemmas

@@ -173,7 +173,7 @@ IsKeptSound-copy slot rows copy promised is_copy greatest =
 
 -- ---- the replica's own ballot
 
-rows_untried : (slot : ℕ) (rows : List JobRow) → filter_map tried_in (map (λ (row : JobRow). Row slot row) rows) ≡ []
+pub rows_untried : (slot : ℕ) (rows : List JobRow) → filter_map tried_in (map (λ (row : JobRow). Row slot row) rows) ≡ []
 rows_untried slot [] = refl
 rows_untried slot (row ∷ rows) = rows_untried slot rows
 

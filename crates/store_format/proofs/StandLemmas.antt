@@ -181,7 +181,7 @@ group_runs size slot rows stand =
 
 -- ---- a state is read
 
-change_not : (size : TableSize) (kept last : Durable) (item : Record) (items : List Record) → IsChangeLog size kept (item ∷ items) last → IsChange item
+pub change_not : (size : TableSize) (kept last : Durable) (item : Record) (items : List Record) → IsChangeLog size kept (item ∷ items) last → IsChange item
 change_not size kept last item items log =
     let parts = IsChangeLog-uncons size kept last item items log in
     (keeps size kept item parts.change parts.is_record parts.may_follow).is_change

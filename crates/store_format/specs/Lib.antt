@@ -1,4 +1,5 @@
 pub mod Area
+pub mod Beside
 pub mod Order
 pub mod Places
 pub mod Records

@@ -81,6 +81,12 @@ fn put_votes_from(slot: u64, votes: &VoteList, bodies: &mut Bodies) -> Result<()
     put_votes(&votes[place_of(votes, slot)..], bodies)
 }
 
+// How many records a base takes at most: beside the rows and the votes the group's first one and two ballots.
+fn most_records(votes: &VoteList, rows: &RowList) -> usize {
+    let beside = votes.items.len().saturating_add(3);
+    rows.items.len().saturating_add(beside)
+}
+
 /// The bodies of what is kept after a base: its group, the replica's own ballot, the promise where it is above that, and
 /// each vote from the base on.
 pub fn write_base(
@@ -96,7 +102,7 @@ pub fn write_base(
         → IfOk result (λ bodies. StandFor size bodies.items (after_delta (Base slot rows.now) kept.now) own) }
     ensures format { (size : TableSize) → RowsStand rows.now size → IfOk result (λ bodies. BeginsInFormat1 size bodies.items → ⊥) }
 {
-    let mut bodies = Vec::new(alloc);
+    let mut bodies = Vec::with_capacity(alloc, most_records(&kept.votes, rows))?;
     put_group(slot, rows, &mut bodies)?;
     put_ballots(own, kept.promised, &mut bodies)?;
     put_votes_from(slot, &kept.votes, &mut bodies)?;

@@ -1,11 +1,11 @@
-//! What the records of a disk area stand for. The bodies stand for one state at most
-//! (`records_stand_for_one_state`), which `read_records` answers, with the ballot of the last `Tried`; if they stand
-//! for none it names the first record at fault (clause `damaged`: `IsFirstRecordAtFault`;
-//! `bodies_have_a_first_fault`). A change that may follow (`may_follow`: `ChangeMayFollow`), appended as its record,
-//! brings the state after it (`a_record_brings_its_change`), and the records of a new base stand for the state after
-//! that base (`write_base`, `the_records_of_a_base_stand`). A record is written and read exactly (`record_bytes`,
-//! `record_in`, `records_differ_in_their_bytes`). `body` has a record by itself, over paxos_letter's packets,
-//! `place` and `reader` go from one record to the next, `reading` and `base` are the two calls.
+//! What the records of a disk area stand for. The bodies stand for one state at most (`records_stand_for_one_state`),
+//! which `read_records` answers, with the ballot of the last `Tried`; if they stand for none it names the first record
+//! at fault (clause `damaged`: `IsFirstRecordAtFault`; `bodies_have_a_first_fault`). `read_beside_rows` answers that
+//! state but for its rows, which a base replaces. A change that may follow (`may_follow`: `ChangeMayFollow`), appended
+//! as its record, brings the state after it (`a_record_brings_its_change`), and the records of a new base stand for the
+//! state after that base (`write_base`, `the_records_of_a_base_stand`). A record is written and read exactly
+//! (`record_bytes`, `record_in`, `records_differ_in_their_bytes`). `body` has a record by itself, over paxos_letter's
+//! packets, `place` and `reader` go from one record to the next, `reading` and `base` are the two calls.
 //!
 //! A record has the layout of a packet, with from 0 and a kind of its own:
 //!
@@ -43,4 +43,4 @@ pub use laws::{
     the_records_of_a_base_stand, the_rows_of_a_group_stand,
 };
 pub use order::{delta_record, may_follow};
-pub use reading::{begins_in_format_1, read_records};
+pub use reading::{begins_in_format_1, read_beside_rows, read_records};

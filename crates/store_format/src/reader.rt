@@ -75,6 +75,31 @@ impl Reader {
         })
     }
 
+    /// A reader behind the group of a base at the slot, which has passed over its rows.
+    pub(crate) fn behind_group(alloc: Global, slot: u64) -> Reader
+        ensures place { result.place ≡ Place.CopyStart }
+        ensures kept { result.kept ≡ record { tried = 0; promised = None; votes = []; base = slot; rows = [] } }
+        ensures own { result.own ≡ None }
+    {
+        let votes = VoteList {
+            items: Vec::new(alloc),
+        };
+        let rows = RowList {
+            items: Vec::new(alloc),
+        };
+        Reader {
+            place: Place::CopyStart,
+            kept: Durable {
+                tried: 0,
+                promised: None,
+                votes,
+                base: slot,
+                rows,
+            },
+            own: None,
+        }
+    }
+
     /// Takes a record, which leads to the place. The greatest ballot so far is promised: in a log each is as great as
     /// those before it, and a copy has the votes' ballots in any order.
     pub(crate) fn take(

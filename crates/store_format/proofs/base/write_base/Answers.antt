@@ -10,7 +10,7 @@ use Rattle.store_format.proofs.base.write_base.Goals.{In_ok-put_votes_from}
 
 written : (c : In_ok-put_votes_from) → AreRecords c.put_votes_from.new.bodies.items (base_records c.args.kept.now c.args.own c.args.slot c.args.rows.now)
 written c =
-    base_added c.args.kept.now c.args.own c.args.slot c.args.rows.now (votes_from c.args.slot c.args.kept.now.votes) c.new-bodies.result.items c.put_group.new.bodies.items c.put_ballots.new.bodies.items c.put_votes_from.new.bodies.items c.new-bodies.ensures.items refl c.in_ok-put_group.ensures c.in_ok-put_ballots.ensures c.in_ok-put_votes_from.ensures
+    base_added c.args.kept.now c.args.own c.args.slot c.args.rows.now (votes_from c.args.slot c.args.kept.now.votes) c.in_ok-bodies.bodies.items c.put_group.new.bodies.items c.put_ballots.new.bodies.items c.put_votes_from.new.bodies.items c.in_ok-bodies.ensures.items refl c.in_ok-put_group.ensures c.in_ok-put_ballots.ensures c.in_ok-put_votes_from.ensures
 
 pub returns-clause-records : goal.returns-clause-records
 returns-clause-records c = written c

@@ -1,19 +1,13 @@
-use Rattle.std.proofs.Common.{◌≡◌, ℕ, ◌+◌, ◌<◌, List, [], ◌∷◌, ◌++◌, length, take, get_or, sym, ap, subst, ◌∙◌, arith}
+use Rattle.std.proofs.Common.{◌≡◌, length, take, sym, ap, subst, ◌∙◌, arith}
 use Rattle.std.proofs.lemmas.Bool.{false≢true}
-use Rattle.std.proofs.lemmas.List.{take_more, get_or_read}
 use Rattle.std.proofs.lemmas.Option.{none-some}
 use Rattle.store_format.specs.Area.{IsFirstRecordAtFault, StandFor}
 use Rattle.store_format.specs.Places.{next_place}
-use Rattle.store_format.proofs.BodyLemmas.{Behind-next, fault_here, broken_off, all_read, StandFor-same}
+use Rattle.store_format.proofs.BodyLemmas.{Behind-next, up_to, fault_here, broken_off, all_read, StandFor-same}
 use Rattle.store_format.proofs.RecordLemmas.{IsRecord-same}
 use Rattle.store_format.proofs.SoundLemmas.{StandFor-sound}
 use Rattle.store_format.proofs.reading.read_records.Goals as goal
 use Rattle.store_format.proofs.reading.read_records.Goals.{After-drop-reader-in_default, After-drop-reader-in_default-next-2, Else-is_in_group}
-
--- the bodies up to one, and that one, by the bytes that it has
-up_to : (bodies : List (List ℕ)) (k : ℕ) (item body : List ℕ) → k < length bodies → item ≡ get_or bodies k item → body ≡ item → take (k + 1) bodies ≡ take k bodies ++ body ∷ []
-up_to bodies k item body within is same =
-    take_more bodies k [] within ∙ ap (λ (last : List ℕ). take k bodies ++ last ∷ []) (sym (same ∙ get_or_read bodies k item within is []))
 
 -- a body that is no record
 unread : (c : After-drop-reader-in_default) → IsFirstRecordAtFault c.args.size c.args.bodies.now c.loop-number.number

@@ -1,12 +1,17 @@
 use Rattle.replica_store.proofs.FaultLemmas.{damaged_below, not_memory}
+use Rattle.paxos_base.specs.Durable.{after_delta}
+use Rattle.paxos_base.specs.declared.durable.Durable.{Durable}
+use Rattle.paxos_base.specs.declared.rows.JobRow.{JobRow}
+use Rattle.paxos_base.specs.declared.durable.Delta.TheVariants.{Base}
 use Rattle.store_format.specs.Area.{StandFor}
-use Rattle.std.proofs.Common.{◌≡◌, [], map, Ok, Err, sym, ap, ◌∙◌, subst}
+use Rattle.std.proofs.Common.{◌≡◌, ℕ, List, [], map, Ok, Err, refl, sym, ap, ◌∙◌, subst}
 use Rattle.disk_model.specs.Made.{MadeCalls}
 use Rattle.disk_model.specs.Told.{TellsThen}
 use Rattle.disk_model.proofs.MadeLemmas.{made_all, made_done, made_sooner, tells_weaker}
 use Rattle.gate_file.specs.Faults.{gate_fault_of}
 use Rattle.gate_file.specs.Made.{rewrite_calls}
 use Rattle.store_format.specs.Area.{BeginsInFormat1, base_records}
+use Rattle.store_format.specs.Beside.{beside}
 use Rattle.store_format.specs.Records.{record_bytes}
 use Rattle.replica_store.specs.Faults.{of_disk}
 use Rattle.replica_store.specs.Files.{other_area}
@@ -64,13 +69,35 @@ pub returns-in_err-rewrite-clause-stopped_spelled : goal.returns-in_err-rewrite-
 returns-in_err-rewrite-clause-stopped_spelled g c kept own stand stopped =
     let store = c.args.self.now in
     let same = c.in_ok-kept.ensures.only kept own (subst (λ bodies. StandFor store.size bodies kept own) (sym c.bodies.ensures) stand) in
-    base_is_spelled c.in_ok-bodies.bodies.items c.in_ok-kept.kept kept c.in_ok-kept.own own c.args.slot c.args.rows.now c.in_ok-bodies.ensures.bodies c.in_ok-bodies.ensures.records same.0 same.1
+    base_is_spelled c.in_ok-bodies.bodies.items c.in_ok-kept.kept (beside c.in_ok-kept.kept.rows kept) c.in_ok-kept.own own c.args.slot c.args.rows.now c.in_ok-bodies.ensures.bodies c.in_ok-bodies.ensures.records same.0 same.1
 
 pub returns-clause-spelled : goal.returns-clause-spelled
 returns-clause-spelled g c kept own stand =
     let store = c.args.self.now in
     let same = c.in_ok-kept.ensures.only kept own (subst (λ bodies. StandFor store.size bodies kept own) (sym c.bodies.ensures) stand) in
-    base_is_spelled c.in_ok-bodies.bodies.items c.in_ok-kept.kept kept c.in_ok-kept.own own c.args.slot c.args.rows.now c.in_ok-bodies.ensures.bodies c.in_ok-bodies.ensures.records same.0 same.1
+    base_is_spelled c.in_ok-bodies.bodies.items c.in_ok-kept.kept (beside c.in_ok-kept.kept.rows kept) c.in_ok-kept.own own c.args.slot c.args.rows.now c.in_ok-bodies.ensures.bodies c.in_ok-bodies.ensures.records same.0 same.1
+
+-- ---- what it stands for
+
+-- a base brings its own rows
+same_base : (slot : ℕ) (rows others : List JobRow) (kept : Durable) → after_delta (Base slot rows) (beside others kept) ≡ after_delta (Base slot rows) kept
+unfolding after_delta
+same_base slot rows others kept = refl
+
+pub returns-clause-stand : goal.returns-clause-stand
+returns-clause-stand g c kept keeps =
+    let store = c.args.self.now in
+    let slot = c.args.slot in
+    let rows = c.args.rows.now in
+    let own = c.in_ok-kept.own in
+    let stand = subst (λ bodies. StandFor store.size bodies kept keeps.0) (sym c.bodies.ensures) keeps.1 in
+    let same = c.in_ok-kept.ensures.only kept keeps.0 stand in
+    let written = c.in_ok-bodies.ensures.stand store.size (c.in_ok-kept.ensures.sound kept keeps.0 stand) c.requires.rows in (
+      own,
+      subst (λ bodies. StandFor store.size bodies (after_delta (Base slot rows) kept) own) (sym c.in_ok-rewrite.ensures.bodies)
+          (subst (λ after. StandFor store.size c.in_ok-bodies.bodies.items after own)
+          (ap (after_delta (Base slot rows)) same.0 ∙ same_base slot rows c.in_ok-kept.kept.rows kept) written),
+    )
 
 -- ---- its format
 
