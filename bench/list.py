@@ -1,5 +1,5 @@
 #!/usr/bin/env python3
-"""Measures what `--list` takes of five tables over 400 days, beside a plain C program that writes as many lines of the same length,
+"""Measures what `--list` takes of six tables over 400 days, beside a plain C program that writes as many lines of the same length,
 and what an entry takes of it, beside a program of Go that lists the same by robfig/cron.
 
 Usage: bench/list.py [PROGRAM]
