@@ -13,7 +13,7 @@ use due_set::JobTable;
 use std::alloc::Global;
 use std::env;
 use std::time::{CpuClock, Duration};
-use world_law::LetterRow;
+use world_law::{Book, LetterRow};
 use zone_minutes::{Minute, Window};
 
 // How many turns there are where no word says it.
@@ -29,10 +29,19 @@ fn main(rt: HostRuntime) -> Result<(), BenchFault> {
     let alloc = rt.alloc();
     let turns = turns_of(env::args(&rt)?.nth(1))?;
     let table = JobTable::in_utc(alloc, HOUR, 10, Vec::new(alloc))?;
+    measure(&rt, &table, turns)
+}
+
+// Measures so many turns of a replica of the table.
+fn measure(rt: &HostRuntime, table: &JobTable, turns: u32) -> Result<(), BenchFault> {
     let start = rt.thread_cpu_time()?;
-    let booked = campaigns(alloc, &table, turns)?;
+    let booked = campaigns(rt.alloc(), table, turns)?;
+    tell(rt, booked.book(), start)
+}
+
+// Tells what a book has, and how many of its turns were taken in a second since the start.
+fn tell(rt: &HostRuntime, book: &Book, start: Duration) -> Result<(), BenchFault> {
     let took = rt.thread_cpu_time()?.saturating_sub(start);
-    let book = booked.book();
     let (turns, letters) = (book.turns().len(), book.letters().len());
     let bytes = bytes_of(book.letters());
     println!(rt; "{turns} turns, {letters} letters of {bytes} bytes")?;

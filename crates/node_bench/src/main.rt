@@ -14,6 +14,7 @@ use crate::seat::{Bare, OnDisk, Steps};
 use due_set::JobTable;
 use job_table::build_table;
 use run_text::read_run;
+use std::alloc::Global;
 use std::time::{CpuClock, Duration};
 
 // A run of one job, which is due in each of 20,000 minutes.
@@ -21,15 +22,27 @@ const RUN: &str = "cronrun 1\nreplicas 1\nwindow 2024-01-01T00:00Z 2024-01-14T21
                    crontab bench UTC 1\n* * * * * job\nscript\nend\n";
 
 fn main(rt: HostRuntime) -> Result<(), BenchFault> {
-    let alloc = rt.alloc();
+    let table = table_of(rt.alloc())?;
+    measure_both(&rt, &table)
+}
+
+// The table of the run.
+fn table_of(alloc: Global) -> Result<JobTable, BenchFault> {
     let Ok(run) = read_run(alloc, RUN) else {
         return Err(BenchFault::NoTable);
     };
-    let Ok(table) = build_table(alloc, &run) else {
-        return Err(BenchFault::NoTable);
-    };
-    measure(&rt, "without a disk", &table, Bare::start(alloc, &table)?)?;
-    measure(&rt, "on a disk", &table, OnDisk::start(alloc, &table)?)
+    match build_table(alloc, &run) {
+        Ok(table) => Ok(table),
+        Err(_) => Err(BenchFault::NoTable),
+    }
+}
+
+// Measures a leader without a disk, and one on a disk.
+fn measure_both(rt: &HostRuntime, table: &JobTable) -> Result<(), BenchFault> {
+    let bare = Bare::start(rt.alloc(), table)?;
+    measure(rt, "without a disk", table, bare)?;
+    let on_disk = OnDisk::start(rt.alloc(), table)?;
+    measure(rt, "on a disk", table, on_disk)
 }
 
 // Measures a leader.
@@ -40,6 +53,16 @@ fn measure<S: Steps>(
     seat: S,
 ) -> Result<(), BenchFault> {
     let mut leader = Leader::new(seat);
+    measure_leader(rt, name, table, &mut leader)
+}
+
+// Measures the steps of a leader.
+fn measure_leader<S: Steps>(
+    rt: &HostRuntime,
+    name: &str,
+    table: &JobTable,
+    leader: &mut Leader<S>,
+) -> Result<(), BenchFault> {
     let start = rt.thread_cpu_time()?;
     leader.run(table)?;
     let took = rt.thread_cpu_time()?.saturating_sub(start);

@@ -24,6 +24,11 @@ fn main(rt: HostRuntime) -> Result<(), BenchFault> {
 fn measure(rt: &HostRuntime, name: &str, run: &str) -> Result<(), BenchFault> {
     let table = table_of(rt.alloc(), run)?;
     let mut group = Group::start(rt.alloc(), &table)?;
+    measure_group(rt, name, &mut group)
+}
+
+// Measures these replicas.
+fn measure_group(rt: &HostRuntime, name: &str, group: &mut Group<'_>) -> Result<(), BenchFault> {
     let start = rt.thread_cpu_time()?;
     group.run()?;
     let took = rt.thread_cpu_time()?.saturating_sub(start);
@@ -31,7 +36,7 @@ fn measure(rt: &HostRuntime, name: &str, run: &str) -> Result<(), BenchFault> {
     println!(rt; "{name}: {done}")?;
     let rate = rate(done.steps, took);
     eprintln!(rt; "{name}: {rate} steps a second")?;
-    measure_choice(rt, name, &group)
+    measure_choice(rt, name, group)
 }
 
 // Measures how the leader's launch table chooses when no job is due any more.

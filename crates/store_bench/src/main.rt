@@ -7,10 +7,9 @@ mod fault;
 mod votes;
 
 use crate::fault::BenchFault;
-use crate::votes::save_votes;
+use crate::votes::{count_votes, save_votes};
 use disk_model::MemDisk;
 use paxos_base::TableSize;
-use replica_store::Store;
 use std::time::{CpuClock, Duration};
 
 // How large the replica's table is.
@@ -25,17 +24,22 @@ const VOTES: u32 = 100_000;
 fn main(rt: HostRuntime) -> Result<(), BenchFault> {
     let alloc = rt.alloc();
     let mut disk = MemDisk::new(alloc, Vec::new(alloc));
+    measure(&rt, &mut disk)
+}
+
+// Measures how votes are saved on a disk, and how they are found there.
+fn measure(rt: &HostRuntime, disk: &mut MemDisk) -> Result<(), BenchFault> {
+    let alloc = rt.alloc();
     let start = rt.thread_cpu_time()?;
-    save_votes(alloc, &mut disk, SIZE, VOTES)?;
+    save_votes(alloc, disk, SIZE, VOTES)?;
     let took = rt.thread_cpu_time()?.saturating_sub(start);
     println!(rt; "{VOTES} votes saved")?;
-    tell(&rt, "saving", took)?;
+    tell(rt, "saving", took)?;
     let start = rt.thread_cpu_time()?;
-    let (_, kept) = Store::attach(alloc, &mut disk, SIZE)?;
+    let found = count_votes(alloc, disk, SIZE)?;
     let took = rt.thread_cpu_time()?.saturating_sub(start);
-    let found = kept.votes.items.len();
     println!(rt; "{found} votes found")?;
-    tell(&rt, "attaching", took)
+    tell(rt, "attaching", took)
 }
 
 // Tells how many votes it would be in a second.

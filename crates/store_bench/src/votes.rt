@@ -24,3 +24,13 @@ pub fn save_votes(
     }
     Ok(())
 }
+
+/// Attaches a disk, and answers how many votes it has.
+pub fn count_votes(
+    alloc: Global,
+    disk: &mut MemDisk,
+    size: TableSize,
+) -> Result<usize, BenchFault> {
+    let (_, kept) = Store::attach(alloc, disk, size)?;
+    Ok(kept.votes.items.len())
+}
