@@ -25,7 +25,7 @@ use Rattle.cron_serve.specs.Stop.{StopsFor, refusal_of, status_of}
 use Rattle.cron_serve.specs.declared.run_end.RunEnd.{RunEnd}
 use Rattle.cron_serve.specs.declared.stop.Stop.{Stop}
 use Rattle.cron_serve.specs.declared.stop.Stop.TheVariants.{Usage, Refused, ReadFault, OutOfMemory}
-use Rattle.cron_serve.specs.declared.words.Request.TheVariants.{Audit}
+use Rattle.program_options.specs.declared.words.Request.TheVariants.{Audit}
 use Rattle.cron_serve.proofs.CompleteLemmas.{consumed, read_whole}
 use Rattle.cron_serve.proofs.ServeLemmas.{EndsStopped, refused_by, rose_by, some_refused, stop_statuses}
 

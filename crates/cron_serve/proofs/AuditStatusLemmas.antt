@@ -11,7 +11,7 @@ use Rattle.audit_finding.specs.declared.finding.Finding.TheVariants.{Passes, Fai
 use Rattle.cron_serve.specs.Audit.{HasRunToAudit, IsAudited, IsFoundOfInput, IsRefusedAuditInput, IsRefusedByAudit, audit_line, audit_status}
 use Rattle.cron_serve.specs.Program.{EndsProgram}
 use Rattle.cron_serve.specs.Serve.{IsNoted, refusal_note, status_note}
-use Rattle.cron_serve.specs.declared.words.Request.TheVariants.{Audit}
+use Rattle.program_options.specs.declared.words.Request.TheVariants.{Audit}
 use Rattle.cron_serve.proofs.StatusLemmas.{at_refusal, note_of_status, refused_by}
 
 module _ (source source' : SourceView) (sink sink' notes notes' : SinkView) (status : ℕ)

@@ -14,9 +14,9 @@ use Rattle.run_text.specs.declared.refusal.Refusal.{Refusal}
 use Rattle.cron_serve.specs.Input.{IsOfInput, IsRefusedBytes, IsRefusedInput, Suits}
 use Rattle.cron_serve.specs.Serve.{IsRefused, IsTextOf}
 use Rattle.cron_serve.specs.Written.{EndsWriting}
-use Rattle.cron_serve.specs.declared.words.Output.{Output}
-use Rattle.cron_serve.specs.declared.words.Output.TheVariants.{Report, DueList, Check, Summary}
-use Rattle.cron_serve.specs.declared.words.Request.TheVariants.{Text}
+use Rattle.program_options.specs.declared.words.Output.{Output}
+use Rattle.program_options.specs.declared.words.Output.TheVariants.{Report, DueList, Check, Summary}
+use Rattle.program_options.specs.declared.words.Request.TheVariants.{Text}
 use Rattle.cron_serve.specs.Stop.{StopsFor, refusal_of, status_of}
 use Rattle.cron_serve.specs.declared.run_end.RunEnd.{RunEnd}
 use Rattle.cron_serve.proofs.VerdictLemmas.{one_input, suits_or_refused}

@@ -5,7 +5,6 @@ pub mod MadeEndLemmas
 pub mod MadeLemmas
 pub mod NodeLemmas
 pub mod OneTextLemmas
-pub mod OptionLemmas
 pub mod PlayLemmas
 pub mod PromiseLemmas
 pub mod SeenLemmas
@@ -15,5 +14,3 @@ pub mod VerdictLemmas
 pub mod VersionLemmas
 pub mod WatchLemmas
 pub mod WholeLemmas
-pub mod WishLemmas
-pub mod WordLemmas

@@ -21,7 +21,7 @@ use Rattle.cron_serve.specs.Ends.{Ends}
 use Rattle.cron_serve.specs.Promise.{HasOnlyDue}
 use Rattle.cron_serve.specs.Serve.{IsRunOf, IsTextOfInput, WritesText}
 use Rattle.cron_serve.specs.declared.run_end.RunEnd.{RunEnd}
-use Rattle.cron_serve.specs.declared.words.Output.TheVariants.{Summary}
+use Rattle.program_options.specs.declared.words.Output.TheVariants.{Summary}
 use Rattle.cron_serve.proofs.PlayLemmas.{few_members}
 use Rattle.cron_serve.proofs.PromiseLemmas.{all_due}
 use Rattle.run_input.proofs.VerdictLemmas.{same_run}

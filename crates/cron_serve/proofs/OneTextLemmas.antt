@@ -18,8 +18,8 @@ use Rattle.journal_text.proofs.SummaryLemmas.{one_summary}
 use Rattle.run_text.specs.Run.{Run}
 use Rattle.cron_serve.specs.Serve.{StandsIfAsked, IsCheckOf, IsDueListOf, IsReportOf, IsRunOf, IsSummaryOf, IsTextOf}
 use Rattle.cron_serve.specs.Watch.{IsBookWatch}
-use Rattle.cron_serve.specs.declared.words.Output.{Output}
-use Rattle.cron_serve.specs.declared.words.Output.TheVariants.{Report, DueList, Check, Summary}
+use Rattle.program_options.specs.declared.words.Output.{Output}
+use Rattle.program_options.specs.declared.words.Output.TheVariants.{Report, DueList, Check, Summary}
 use Rattle.cron_serve.proofs.PlayLemmas.{few_members}
 use Rattle.cron_serve.proofs.SeenLemmas.{one_watch}
 use Rattle.run_input.proofs.VerdictLemmas.{one_frame, one_taken}

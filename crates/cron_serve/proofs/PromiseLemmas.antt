@@ -17,9 +17,9 @@ use Rattle.cron_serve.specs.Promise.{HasEachDue, HasOnlyDue, ReportsInput, Repor
 use Rattle.cron_serve.specs.Serve.{IsReportOf, IsRunOf, WritesText}
 use Rattle.cron_serve.specs.Served.{EndsFor}
 use Rattle.cron_serve.specs.declared.run_end.RunEnd.{RunEnd}
-use Rattle.cron_serve.specs.declared.words.Output.TheVariants.{Report}
-use Rattle.cron_serve.specs.declared.words.Request.{Request}
-use Rattle.cron_serve.specs.declared.words.Request.TheVariants.{Text}
+use Rattle.program_options.specs.declared.words.Output.TheVariants.{Report}
+use Rattle.program_options.specs.declared.words.Request.{Request}
+use Rattle.program_options.specs.declared.words.Request.TheVariants.{Text}
 use Rattle.run_outcome.proofs.SettledLemmas.{called_held}
 use Rattle.cron_serve.proofs.WholeLemmas.{all_launched, each_called, each_ended, each_within_grace, fitting, periods_apart, row_due}
 

@@ -37,10 +37,10 @@ use Rattle.cron_serve.specs.Played.{HasWatched}
 use Rattle.cron_serve.specs.Stop.{IsRefusedFor, StopsFor, refusal_of, status_of, stop_of_run}
 use Rattle.cron_serve.specs.Watch.{IsBookWatch, watch_text}
 use Rattle.cron_serve.specs.Written.{EndsRunText, EndsWriting, WritesAtStatus, WritesTextOf, status_of_listing, status_of_writing}
-use Rattle.cron_serve.specs.declared.words.Output.{Output}
-use Rattle.cron_serve.specs.declared.words.Output.TheVariants.{Report, DueList, Check, Summary}
-use Rattle.cron_serve.specs.declared.words.Request.{Request}
-use Rattle.cron_serve.specs.declared.words.Request.TheVariants.{Text}
+use Rattle.program_options.specs.declared.words.Output.{Output}
+use Rattle.program_options.specs.declared.words.Output.TheVariants.{Report, DueList, Check, Summary}
+use Rattle.program_options.specs.declared.words.Request.{Request}
+use Rattle.program_options.specs.declared.words.Request.TheVariants.{Text}
 use Rattle.run_text.specs.Steps.{IfRefused}
 use Rattle.run_text.specs.declared.refusal.Refusal.{Refusal}
 use Rattle.run_text.specs.declared.refusal.RunFault.{RunFault}

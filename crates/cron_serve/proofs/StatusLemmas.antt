@@ -10,9 +10,9 @@ use Rattle.run_text.specs.declared.refusal.Refusal.{Refusal}
 use Rattle.cron_serve.specs.Input.{IsRefusedInput, Suits}
 use Rattle.cron_serve.specs.Program.{EndsProgram}
 use Rattle.cron_serve.specs.Serve.{IsNoted, IsRefused, WritesSome, WritesText, note_text, refusal_note, status_note}
-use Rattle.cron_serve.specs.declared.words.Output.{Output}
-use Rattle.cron_serve.specs.declared.words.Output.TheVariants.{Summary}
-use Rattle.cron_serve.specs.declared.words.Request.TheVariants.{Text}
+use Rattle.program_options.specs.declared.words.Output.{Output}
+use Rattle.program_options.specs.declared.words.Output.TheVariants.{Summary}
+use Rattle.program_options.specs.declared.words.Request.TheVariants.{Text}
 
 -- the refusal that an end has, and its note
 pub refused_by : (Why : Refusal → Type 0) (notes notes' : SinkView) (status : ℕ) (refusal : Option Refusal) → IsSomeAnd refusal Why

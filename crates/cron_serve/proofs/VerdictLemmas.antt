@@ -3,8 +3,8 @@ use Rattle.std.proofs.Common.{◌≡◌, inl, inr, ℕ, ◌≤◌, List, length,
 use Rattle.run_text.specs.declared.refusal.Refusal.{Refusal}
 use Rattle.run_input.proofs.VerdictLemmas.{frame_or_refused, one_refused_frame, one_refused_run_file, taken_or_refused}
 use Rattle.cron_serve.specs.Input.{IsOfInput, IsRefusedBytes, IsRefusedInput, Suits}
-use Rattle.cron_serve.specs.declared.words.Output.{Output}
-use Rattle.cron_serve.specs.declared.words.Output.TheVariants.{Report, DueList, Check, Summary}
+use Rattle.program_options.specs.declared.words.Output.{Output}
+use Rattle.program_options.specs.declared.words.Output.TheVariants.{Report, DueList, Check, Summary}
 
 one_refused : (output : Output) (bytes : List ℕ) (a b : Refusal) → IsRefusedBytes output bytes a → IsRefusedBytes output bytes b → a ≡ b
 one_refused (Report watch journal) bytes a b first second = one_refused_run_file bytes a b first second

@@ -10,7 +10,7 @@ use Rattle.run_text.specs.declared.refusal.Refusal.{Refusal}
 use Rattle.cron_serve.specs.Input.{IsOfInput, IsRefusedInput, Suits}
 use Rattle.cron_serve.specs.Serve.{IsTextOfInput}
 use Rattle.cron_serve.specs.declared.run_end.RunEnd.{RunEnd}
-use Rattle.cron_serve.specs.declared.words.Output.{Output}
+use Rattle.program_options.specs.declared.words.Output.{Output}
 
 -- Where the source told its bytes, the end is decided by them, unless a read or a write failed or memory ran out.
 pub record Completes (output : Output) (source source' : SourceView) (sink sink' : SinkView) (end : RunEnd) : Type 0 where

@@ -7,7 +7,7 @@ use Rattle.cron_serve.specs.Complete.{HasRoomForText, LacksRoomForText}
 use Rattle.cron_serve.specs.Serve.{IsRefused, LeavesNoRun, WritesText, WritesSome}
 use Rattle.cron_serve.specs.Written.{LeavesNothing}
 use Rattle.cron_serve.specs.declared.run_end.RunEnd.{RunEnd}
-use Rattle.cron_serve.specs.declared.words.Output.{Output}
+use Rattle.program_options.specs.declared.words.Output.{Output}
 
 -- how the program ended that was asked for this, by what is seen of the source and the sink before and after it
 pub record Ends (output : Output) (source source' : SourceView) (sink sink' : SinkView) (end : RunEnd) : Type 0 where

@@ -4,7 +4,7 @@ use Rattle.cron_io.specs.Views.{SourceView, SinkView}
 use Rattle.cron_serve.specs.Serve.{note_text, status_note, IsNoted}
 use Rattle.cron_serve.specs.Served.{CompletesFor, EndsFor}
 use Rattle.cron_serve.specs.declared.run_end.RunEnd.{RunEnd}
-use Rattle.cron_serve.specs.declared.words.Request.{Request}
+use Rattle.program_options.specs.declared.words.Request.{Request}
 
 -- the program was asked for this and ended with this status: its end says what was written, it is the one that the bytes decide
 -- where no call fails, and its note was written

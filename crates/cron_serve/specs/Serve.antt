@@ -23,8 +23,8 @@ use Rattle.job_table.specs.Table.{whole_run}
 use Rattle.run_input.specs.Input.{IsRunWithTable, IsTakenFrame}
 use Rattle.cron_serve.specs.Input.{IsOfInput, IsRefusedBytes}
 use Rattle.cron_serve.specs.Watch.{IsBookWatch}
-use Rattle.cron_serve.specs.declared.words.Output.{Output}
-use Rattle.cron_serve.specs.declared.words.Output.TheVariants.{Report, DueList, Check, Summary}
+use Rattle.program_options.specs.declared.words.Output.{Output}
+use Rattle.program_options.specs.declared.words.Output.TheVariants.{Report, DueList, Check, Summary}
 use Rattle.cron_fields.specs.declared.cause.Cause.TheVariants.{TooLarge}
 
 -- more than 1,048,576 bytes came

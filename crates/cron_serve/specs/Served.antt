@@ -6,8 +6,8 @@ use Rattle.cron_serve.specs.Audit.{CompletesAudit, EndsAudit}
 use Rattle.cron_serve.specs.Complete.{Completes}
 use Rattle.cron_serve.specs.Ends.{Ends}
 use Rattle.cron_serve.specs.declared.run_end.RunEnd.{RunEnd}
-use Rattle.cron_serve.specs.declared.words.Request.{Request}
-use Rattle.cron_serve.specs.declared.words.Request.TheVariants.{Text, Audit}
+use Rattle.program_options.specs.declared.words.Request.{Request}
+use Rattle.program_options.specs.declared.words.Request.TheVariants.{Text, Audit}
 
 -- how the program ended that was asked for this
 abbrev pub EndsFor : Request → (source source' : SourceView) (sink sink' : SinkView) → RunEnd → Type 0

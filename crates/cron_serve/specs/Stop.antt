@@ -10,8 +10,8 @@ use Rattle.run_text.specs.declared.refusal.RunFault.TheVariants as run
 use Rattle.job_table.specs.Table.{whole_run}
 use Rattle.cron_serve.specs.Audit.{IsRefusedByAudit}
 use Rattle.cron_serve.specs.Serve.{IsRefused}
-use Rattle.cron_serve.specs.declared.words.Request.{Request}
-use Rattle.cron_serve.specs.declared.words.Request.TheVariants.{Text, Audit}
+use Rattle.program_options.specs.declared.words.Request.{Request}
+use Rattle.program_options.specs.declared.words.Request.TheVariants.{Text, Audit}
 use Rattle.cron_serve.specs.declared.stop.Stop.{Stop}
 use Rattle.cron_serve.specs.declared.stop.Stop.TheVariants.{Usage, Refused, ReadFault, OutOfMemory}
 use Rattle.cron_fields.specs.declared.cause.Cause.TheVariants.{TooLarge}

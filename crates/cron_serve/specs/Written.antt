@@ -12,7 +12,7 @@ use Rattle.report_text.specs.declared.fault.ReportFault.{ReportFault}
 use Rattle.report_text.specs.declared.fault.ReportFault.TheVariants as report
 use Rattle.cron_serve.specs.Serve.{IsTextOf, LeavesNoRun}
 use Rattle.cron_serve.specs.declared.run_end.RunEnd.{RunEnd}
-use Rattle.cron_serve.specs.declared.words.Output.{Output}
+use Rattle.program_options.specs.declared.words.Output.{Output}
 
 -- At status 0 the sink gained the text, and otherwise a front of it; status 4 comes only where a write failed. Where the sink told
 -- its room, all of the text found room at status 0, and it is longer at status 4.

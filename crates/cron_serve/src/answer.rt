@@ -13,12 +13,12 @@ ghost use Rattle.cron_serve.specs.Written.{EndsRunText, EndsWriting, status_of_l
 
 use crate::run_end::RunEnd;
 use crate::watch::{play_watched, write_watch};
-use crate::words::Output;
 use cron_io::Sink;
 use disk_model::MemDisk;
 use due_list::{ListFault, write_check, write_due};
 use due_set::JobTable;
 use journal_text::write_journal;
+use program_options::Output;
 use replica_node::Node;
 use report_text::{ReportFault, write_book_report};
 use run_input::{take_frame, take_table};

@@ -4,7 +4,7 @@ ghost use Rattle.cron_io.specs.Reading.{HasReadOn, StaysReliable};
 ghost use Rattle.cron_serve.specs.Audit.{EndsTelling, IsFoundOfInput, LeavesBookOf, audit_line, audit_status};
 ghost use Rattle.cron_serve.specs.Served.{EndsServing};
 ghost use Rattle.cron_serve.specs.Stop.{StopsFor};
-ghost use Rattle.cron_serve.specs.declared.words.Request.{Request};
+ghost use Rattle.program_options.specs.declared.words.Request.{Request};
 
 use crate::run_end::RunEnd;
 use crate::stop::Stop;

@@ -1,5 +1,5 @@
 //! The program's answer: `run`, its one call, and `cron_cluster` within it. The options ask for one text at most
-//! (`Asks`; `words_ask_for_one_text`): without one for the report, by `--watch` for what was seen of a board after it
+//! (program_options: `Asks`): without one for the report, by `--watch` for what was seen of a board after it
 //! and by `--journal` for the journal after these (`IsReportOf`), by `--list` or `--check` for the due list or the
 //! check, by `--make` for the summary of the run of a seed; or for an audit of what the input has behind a run, by
 //! `--audit` (`EndsAudit`, `a_status_tells_of_an_audit`). Status, text and note are those of one end (`run`, clause
@@ -28,7 +28,6 @@ mod run_end;
 mod serve;
 mod stop;
 mod watch;
-mod words;
 
 pub use laws::{
     a_book_has_one_text, a_late_end_leaves_a_front, a_listing_leaves_no_run, a_made_run_is_played,
@@ -37,10 +36,9 @@ pub use laws::{
     a_run_leaves_its_nodes, a_run_without_commands_launches_each_due_instant,
     a_status_tells_of_an_audit, a_status_tells_the_end, an_early_end_leaves_nothing,
     an_input_has_one_verdict, no_end_takes_back, the_bytes_decide_an_audit,
-    the_bytes_decide_the_end, the_bytes_decide_the_status, words_ask_for_one_text,
+    the_bytes_decide_the_end, the_bytes_decide_the_status,
 };
 pub use program::run;
 pub use run_end::RunEnd;
 pub use run_text::Refusal;
 pub use serve::cron_cluster;
-pub use words::{Asked, Choice, Output, Request, read_words};

@@ -3,7 +3,7 @@ ghost use Rattle.std.specs.Prelude.{◌≡◌, ◌<◌, ℕ, List, IfOk, IfErr};
 ghost use Rattle.cron_serve.specs.Played.{IsPlayed};
 ghost use Rattle.cron_serve.specs.Serve.{IsRunOf};
 ghost use Rattle.cron_serve.specs.Written.{EndsRunText, EndsWriting};
-ghost use Rattle.cron_serve.specs.declared.words.Output.{Output};
+ghost use Rattle.program_options.specs.declared.words.Output.{Output};
 ghost use Rattle.journal_text.specs.Summary.{IsBookSummary};
 ghost use Rattle.generated_run.specs.Made.{made_text};
 

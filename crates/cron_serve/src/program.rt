@@ -6,10 +6,10 @@ ghost use Rattle.std.specs.Vec.Iter.{into_iter_items};
 ghost use Rattle.cron_serve.specs.Program.{EndsProgram, StopsProgram};
 ghost use Rattle.cron_serve.specs.Promise.{ReportsInput};
 ghost use Rattle.cron_serve.specs.Stop.{StopsAtOnce, status_of};
-ghost use Rattle.cron_serve.specs.Words.{Asks, HasNoOptions, behind_name, texts_of};
-ghost use Rattle.cron_serve.specs.declared.words.Asked.{Asked};
-ghost use Rattle.cron_serve.specs.declared.words.Output.{Output};
-ghost use Rattle.cron_serve.specs.declared.words.Request.{Request};
+ghost use Rattle.program_options.specs.Words.{Asks, HasNoOptions, behind_name, texts_of};
+ghost use Rattle.program_options.specs.declared.words.Asked.{Asked};
+ghost use Rattle.program_options.specs.declared.words.Output.{Output};
+ghost use Rattle.program_options.specs.declared.words.Request.{Request};
 
 use crate::note::write_note;
 use crate::run_end::RunEnd;

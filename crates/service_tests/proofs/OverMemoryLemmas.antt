@@ -13,7 +13,7 @@ use Rattle.run_text.specs.declared.refusal.Refusal.{Refusal}
 use Rattle.run_input.specs.Input.{IsRunWithTable}
 use Rattle.service_tests.specs.OverMemory.{IsReportOfRun, FitsRoom, IsBeyondRoom}
 use Rattle.cron_serve.specs.Serve.{IsRefused, IsReportOf, IsTextOfInput}
-use Rattle.cron_serve.specs.declared.words.Output.TheVariants.{Report}
+use Rattle.program_options.specs.declared.words.Output.TheVariants.{Report}
 use Rattle.cron_serve.specs.declared.run_end.RunEnd.{RunEnd}
 use Rattle.cron_serve.proofs.CompleteLemmas.{read_whole, refused_input}
 use Rattle.cron_serve.proofs.VerdictLemmas.{suits_or_refused}

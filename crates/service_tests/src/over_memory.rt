@@ -5,7 +5,7 @@ ghost use Rattle.run_text.specs.Run.{Run};
 ghost use Rattle.run_input.specs.Input.{IsRunWithTable};
 ghost use Rattle.service_tests.specs.OverMemory.{FitsRoom, IsBeyondRoom};
 ghost use Rattle.cron_serve.specs.Input.{Suits};
-ghost use Rattle.cron_serve.specs.declared.words.Output.{Output};
+ghost use Rattle.program_options.specs.declared.words.Output.{Output};
 
 use cron_io::{MemSink, MemSource, OutOfMemory};
 use cron_serve::cron_cluster;

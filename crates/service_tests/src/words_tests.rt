@@ -1,7 +1,7 @@
 //! What the words of a command line ask for, and which are at fault.
 use crate::program::{args_of, play};
 use crate::runs::{THREE_LAUNCHES, USAGE};
-use cron_serve::{Asked, Output, Request, read_words};
+use program_options::{Asked, Output, Request, read_words};
 use std::alloc::Global;
 use std::env::Args;
 use std::test::Fail;

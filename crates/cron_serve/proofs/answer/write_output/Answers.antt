@@ -1,7 +1,7 @@
 use Rattle.due_list.specs.CheckText.{IsCheckText}
 use Rattle.due_list.specs.DueText.{IsDueText}
 use Rattle.run_text.specs.Run.{run_of}
-use Rattle.cron_serve.specs.declared.words.Output.TheVariants.{DueList, Check}
+use Rattle.program_options.specs.declared.words.Output.TheVariants.{DueList, Check}
 use Rattle.cron_serve.proofs.ServeLemmas.{ends_listing, ends_report}
 use Rattle.cron_serve.proofs.answer.write_output.Goals as goal
 

@@ -1,5 +1,5 @@
 use Rattle.std.proofs.Common.{Err, ap}
-use Rattle.cron_serve.specs.declared.words.Request.TheVariants.{Audit}
+use Rattle.program_options.specs.declared.words.Request.TheVariants.{Audit}
 use Rattle.cron_serve.proofs.AuditLemmas.{audit_stopped, completes_stopped_audit, serving_found}
 use Rattle.cron_serve.proofs.ServeLemmas.{EndsStopped, serving_stopped}
 use Rattle.cron_serve.proofs.auditing.serve_audit.Goals as goal

@@ -4,7 +4,7 @@ use Rattle.cron_io.specs.Writing.{HasGainedPrefix}
 use Rattle.cron_serve.specs.Ends.{Ends}
 use Rattle.cron_serve.specs.Serve.{IsTextOfInput}
 use Rattle.cron_serve.specs.declared.run_end.RunEnd.{RunEnd}
-use Rattle.cron_serve.specs.declared.words.Output.{Output}
+use Rattle.program_options.specs.declared.words.Output.{Output}
 use Rattle.cron_serve.proofs.laws.a_late_end_leaves_a_front.Goals as goal
 
 front_at : (output : Output) (source source' : SourceView) (sink sink' : SinkView) (end : RunEnd) → Ends output source source' sink sink' end

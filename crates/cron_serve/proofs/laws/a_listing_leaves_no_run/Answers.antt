@@ -6,8 +6,8 @@ use Rattle.world_law.specs.Book.{BookState}
 use Rattle.cron_serve.specs.Ends.{Ends}
 use Rattle.cron_serve.specs.Serve.{IsTextOfInput, LeavesNoRun}
 use Rattle.cron_serve.specs.declared.run_end.RunEnd.{RunEnd}
-use Rattle.cron_serve.specs.declared.words.Output.{Output}
-use Rattle.cron_serve.specs.declared.words.Output.TheVariants.{Report, DueList, Check, Summary}
+use Rattle.program_options.specs.declared.words.Output.{Output}
+use Rattle.program_options.specs.declared.words.Output.TheVariants.{Report, DueList, Check, Summary}
 use Rattle.cron_serve.proofs.laws.a_listing_leaves_no_run.Goals as goal
 
 none_of_text : (output : Output) (source source' : SourceView) (book : BookState) (nodes : List (Node MemDisk)) (text : List ℕ) → (output ≡ DueList) ⊎ (output ≡ Check)

@@ -1,7 +1,7 @@
 use Rattle.std.proofs.Common.{◌≡◌, ◌↔◌, refl, subst, sym}
-use Rattle.cron_serve.specs.Words.{Asks, HasNoOptions}
+use Rattle.program_options.specs.Words.{Asks, HasNoOptions}
 use Rattle.cron_serve.proofs.PromiseLemmas.{reports_end}
-use Rattle.cron_serve.proofs.WordLemmas.{behind_first}
+use Rattle.program_options.proofs.WordLemmas.{behind_first}
 use Rattle.cron_serve.proofs.program.run.Goals as goal
 
 pub returns-in-Ok-clause-report : goal.returns-in-Ok-clause-report

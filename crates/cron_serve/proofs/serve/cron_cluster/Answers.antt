@@ -1,8 +1,8 @@
 use Rattle.std.proofs.Common.{◌∙◌, ap, subst, sym}
 use Rattle.cron_serve.specs.Served.{CompletesFor, EndsFor}
-use Rattle.cron_serve.specs.declared.words.Asked.{Asked}
+use Rattle.program_options.specs.declared.words.Asked.{Asked}
 use Rattle.cron_serve.proofs.ServeLemmas.{ends_unread}
-use Rattle.cron_serve.proofs.WordLemmas.{asks_one, asks_some_lanes}
+use Rattle.program_options.proofs.WordLemmas.{asks_one, asks_some_lanes}
 use Rattle.cron_serve.proofs.serve.cron_cluster.Goals as goal
 use Rattle.cron_serve.proofs.serve.cron_cluster.Goals.{in-Some, in-None}
 

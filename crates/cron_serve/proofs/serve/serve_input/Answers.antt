@@ -1,5 +1,5 @@
 use Rattle.std.proofs.Common.{Err, ap}
-use Rattle.cron_serve.specs.declared.words.Request.TheVariants.{Text}
+use Rattle.program_options.specs.declared.words.Request.TheVariants.{Text}
 use Rattle.cron_serve.proofs.CompleteLemmas.{completes_stopped}
 use Rattle.cron_serve.proofs.ServeLemmas.{EndsStopped, ends_stopped, serving_stopped}
 use Rattle.cron_serve.proofs.serve.serve_input.Goals as goal

@@ -1,6 +1,6 @@
 use Rattle.std.proofs.Common.{inr, refl}
 use Rattle.generated_run.specs.Made.{made_text}
-use Rattle.cron_serve.specs.declared.words.Output.TheVariants.{Summary}
+use Rattle.program_options.specs.declared.words.Output.TheVariants.{Summary}
 use Rattle.cron_serve.specs.declared.stop.Stop.TheVariants.{OutOfMemory}
 use Rattle.cron_serve.proofs.CompleteLemmas.{completes_made, completes_summary}
 use Rattle.cron_serve.proofs.ServeLemmas.{ends_stopped, ends_text, none_read}

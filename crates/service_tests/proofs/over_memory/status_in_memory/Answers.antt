@@ -1,9 +1,9 @@
 use Rattle.std.proofs.Common.{ap, ◌∙◌, Some, false}
 use Rattle.cron_io.specs.Memory.{room_unless}
 use Rattle.cron_serve.specs.Input.{IsRefusedInput}
-use Rattle.cron_serve.specs.Words.{texts_of}
-use Rattle.cron_serve.specs.declared.words.Output.TheVariants.{Report}
-use Rattle.cron_serve.proofs.WordLemmas.{asks_report}
+use Rattle.program_options.specs.Words.{texts_of}
+use Rattle.program_options.specs.declared.words.Output.TheVariants.{Report}
+use Rattle.program_options.proofs.WordLemmas.{asks_report}
 use Rattle.service_tests.proofs.OverMemoryLemmas.{EndsOverMemory, ends_whole, ends_cut, ends_refused, not_risen}
 use Rattle.service_tests.proofs.over_memory.status_in_memory.Goals as goal
 

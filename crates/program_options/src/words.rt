@@ -1,7 +1,7 @@
 //! The words of the command line.
 ghost use Rattle.std.specs.Prelude.{◌≡◌, ◌≢◌, ◌≤◌, ◌⊎◌, ◌∷◌, ◌++◌, [], ℕ, List, None, Some, IfSome, IfNone, IsSome, AllPairs, codes, decimal, false, true, unwrap_or};
 ghost use Rattle.std.specs.Vec.Iter.{into_iter_items, into_iter_len};
-ghost use Rattle.cron_serve.specs.Words.{AreWishesOf, Asks, HasNoOptions, BeginsWith, IsSpelledBy, MayStandTogether, texts_of};
+ghost use Rattle.program_options.specs.Words.{AreWishesOf, Asks, HasNoOptions, BeginsWith, IsSpelledBy, MayStandTogether, texts_of};
 
 use cron_io::read_number;
 use std::env::Args;

@@ -1,9 +1,9 @@
 use Rattle.std.proofs.Common.{refl}
-use Rattle.cron_serve.specs.declared.words.Choice.TheVariants as choice
-use Rattle.cron_serve.specs.declared.words.Output.TheVariants.{DueList, Check, Summary}
-use Rattle.cron_serve.specs.declared.words.Request.TheVariants.{Text, Audit}
-use Rattle.cron_serve.proofs.WishLemmas.{clashes, goes_on, journal_clashes, lanes_clash, request_clashes, watch_clashes, with_journal, with_lanes, with_request, with_watch}
-use Rattle.cron_serve.proofs.words.Wishes.with.Goals as goal
+use Rattle.program_options.specs.declared.words.Choice.TheVariants as choice
+use Rattle.program_options.specs.declared.words.Output.TheVariants.{DueList, Check, Summary}
+use Rattle.program_options.specs.declared.words.Request.TheVariants.{Text, Audit}
+use Rattle.program_options.proofs.WishLemmas.{clashes, goes_on, journal_clashes, lanes_clash, request_clashes, watch_clashes, with_journal, with_lanes, with_request, with_watch}
+use Rattle.program_options.proofs.words.Wishes.with.Goals as goal
 
 pub returns-in-List-clause-some : goal.returns-in-List-clause-some
 returns-in-List-clause-some c =

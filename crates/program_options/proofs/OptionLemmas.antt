@@ -3,9 +3,9 @@ use Rattle.std.proofs.Common.{◌≡◌, ◌≢◌, inl, inr, ℕ, suc, ◌≤�
 use Rattle.std.specs.Prelude.{codes}
 use Rattle.std.proofs.lemmas.Fmt.{decimal_injective}
 use Rattle.std.proofs.lemmas.List.{append_cancel_left}
-use Rattle.cron_serve.specs.Words.{IsNameWithValue, BeginsWith, AreSpelledBy, behind_name}
-use Rattle.cron_serve.specs.declared.words.Choice.{Choice}
-use Rattle.cron_serve.specs.declared.words.Choice.TheVariants as choice
+use Rattle.program_options.specs.Words.{IsNameWithValue, BeginsWith, AreSpelledBy, behind_name}
+use Rattle.program_options.specs.declared.words.Choice.{Choice}
+use Rattle.program_options.specs.declared.words.Choice.TheVariants as choice
 
 -- two numbers of lanes that are written alike are one
 same_lanes : (a b : ℕ) → a ≤ 8 → b ≤ 8 → decimal a ≡ decimal b → choice.Lanes a ≡ choice.Lanes b

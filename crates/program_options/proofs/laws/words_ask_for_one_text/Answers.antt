@@ -1,8 +1,8 @@
 use Rattle.std.proofs.Common.{refl, [], ◌∷◌}
 use Rattle.std.specs.Prelude.{codes}
-use Rattle.cron_serve.specs.declared.words.Choice.TheVariants as choice
-use Rattle.cron_serve.proofs.WordLemmas.{asks_alone, asks_both, asks_clash, asks_lanes, asks_none, asks_one, asks_unknown, same_asked}
-use Rattle.cron_serve.proofs.laws.words_ask_for_one_text.Goals as goal
+use Rattle.program_options.specs.declared.words.Choice.TheVariants as choice
+use Rattle.program_options.proofs.WordLemmas.{asks_alone, asks_both, asks_clash, asks_lanes, asks_none, asks_one, asks_unknown, same_asked}
+use Rattle.program_options.proofs.laws.words_ask_for_one_text.Goals as goal
 
 pub returns : goal.returns
 returns c = record {

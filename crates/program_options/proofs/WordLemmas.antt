@@ -1,6 +1,6 @@
 -- What words ask for.
 use Rattle.std.proofs.Common.{◌≡◌, ◌≢◌, inl, inr, ℕ, zero, suc, ◌<◌, ◌≤◌, List, [], ◌∷◌, ◌++◌, length, get_or, Option, None, Some, refl, sym, ap, subst, ◌∙◌, arith, append_assoc, decimal}
-use Rattle.std.specs.Prelude.{AllPairs, Bool, IfSome, String, codes, false, filter_map, option_to_list, unwrap_or}
+use Rattle.std.specs.Prelude.{AllPairs, Bool, IfNone, IfSome, String, codes, false, filter_map, option_to_list, unwrap_or}
 use Rattle.std.specs.List.{list_any}
 use Rattle.std.specs.Str.Pattern.{FindsTextPrefix, StripsPrefix}
 use Rattle.std.specs.Vec.Iter.{into_iter_items, into_iter_len, into_iter_steps}
@@ -9,16 +9,21 @@ use Rattle.std.specs.declared.vec.IntoIter.{IntoIter}
 use Rattle.std.proofs.lemmas.Fmt.{decimal_injective}
 use Rattle.std.proofs.lemmas.List.{append-nil, nil_from_length}
 use Rattle.std.proofs.lemmas.List.Quantifiers.{all_pairs_push}
-use Rattle.cron_serve.specs.Words.{IsSpelledBy, BeginsWith, AreSpelledBy, MayStandTogether, is_watch, lanes_of, request_of, request_asked, wanted, Asks, HasNoOptions, AreWishesOf, texts_of, behind_name}
-use Rattle.cron_serve.specs.declared.words.Asked.{Asked}
-use Rattle.cron_serve.specs.declared.words.Choice.{Choice}
-use Rattle.cron_serve.specs.declared.words.Choice.TheVariants as choice
-use Rattle.cron_serve.specs.declared.words.Output.TheVariants.{Report}
-use Rattle.cron_serve.specs.declared.words.Request.{Request}
-use Rattle.cron_serve.specs.declared.words.Request.TheVariants.{Text}
-use Rattle.cron_serve.specs.declared.words.Wishes.{Wishes}
-use Rattle.cron_serve.proofs.OptionLemmas.{begins_somewhere, one_first, one_spelled, word_there}
-use Rattle.cron_serve.proofs.WishLemmas.{together_none}
+use Rattle.program_options.specs.Words.{IsSpelledBy, BeginsWith, AreSpelledBy, MayStandTogether, is_watch, lanes_of, request_of, request_asked, wanted, Asks, HasNoOptions, AreWishesOf, texts_of, behind_name}
+use Rattle.program_options.specs.declared.words.Asked.{Asked}
+use Rattle.program_options.specs.declared.words.Choice.{Choice}
+use Rattle.program_options.specs.declared.words.Choice.TheVariants as choice
+use Rattle.program_options.specs.declared.words.Output.TheVariants.{Report}
+use Rattle.program_options.specs.declared.words.Request.{Request}
+use Rattle.program_options.specs.declared.words.Request.TheVariants.{Text}
+use Rattle.program_options.specs.declared.words.Wishes.{Wishes}
+use Rattle.program_options.proofs.OptionLemmas.{begins_somewhere, one_first, one_spelled, word_there}
+use Rattle.program_options.proofs.WishLemmas.{together_none}
+
+-- what is so anyway is so where there is none
+pub if_none : {T P : Type 0} (r : Option T) → P → IfNone r P
+if_none None holds = holds
+if_none (Some x) holds = tt
 
 -- words ask for one thing
 pub asks_one : (words : List (List ℕ)) (a b : Asked) → Asks words a → Asks words b → a ≡ b

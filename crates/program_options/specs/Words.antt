@@ -4,13 +4,13 @@ use Rattle.std.specs.Prelude.{◌≡◌, ◌⊎◌, ◌≤◌, ℕ, Bool, true, 
 use Rattle.std.specs.List.{list_any}
 use Rattle.std.specs.Option.{option_to_list}
 use Rattle.std.specs.declared.alloc.Global.{Global}
-use Rattle.cron_serve.specs.declared.words.Asked.{Asked}
-use Rattle.cron_serve.specs.declared.words.Choice.{Choice}
-use Rattle.cron_serve.specs.declared.words.Choice.TheVariants as choice
-use Rattle.cron_serve.specs.declared.words.Output.TheVariants.{Report, DueList, Check, Summary}
-use Rattle.cron_serve.specs.declared.words.Request.{Request}
-use Rattle.cron_serve.specs.declared.words.Request.TheVariants.{Text, Audit}
-use Rattle.cron_serve.specs.declared.words.Wishes.{Wishes}
+use Rattle.program_options.specs.declared.words.Asked.{Asked}
+use Rattle.program_options.specs.declared.words.Choice.{Choice}
+use Rattle.program_options.specs.declared.words.Choice.TheVariants as choice
+use Rattle.program_options.specs.declared.words.Output.TheVariants.{Report, DueList, Check, Summary}
+use Rattle.program_options.specs.declared.words.Request.{Request}
+use Rattle.program_options.specs.declared.words.Request.TheVariants.{Text, Audit}
+use Rattle.program_options.specs.declared.words.Wishes.{Wishes}
 
 -- the words are this name and this value: two words, or one with `=` between the two
 abbrev pub IsNameWithValue : (name value : List ℕ) → List (List ℕ) → Type 0

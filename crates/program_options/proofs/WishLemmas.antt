@@ -5,11 +5,11 @@ use Rattle.std.specs.List.{cons_option, list_any}
 use Rattle.std.proofs.lemmas.List.{append-nil}
 use Rattle.std.proofs.lemmas.List.Folds.{list_any-append}
 use Rattle.std.proofs.lemmas.List.Quantifiers.{all_pairs_push}
-use Rattle.cron_serve.specs.Words.{MayStandTogether, is_journal, is_watch, lanes_asked, request_asked, AreWishesOf}
-use Rattle.cron_serve.specs.declared.words.Choice.{Choice}
-use Rattle.cron_serve.specs.declared.words.Choice.TheVariants as choice
-use Rattle.cron_serve.specs.declared.words.Request.{Request}
-use Rattle.cron_serve.specs.declared.words.Wishes.{Wishes}
+use Rattle.program_options.specs.Words.{MayStandTogether, is_journal, is_watch, lanes_asked, request_asked, AreWishesOf}
+use Rattle.program_options.specs.declared.words.Choice.{Choice}
+use Rattle.program_options.specs.declared.words.Choice.TheVariants as choice
+use Rattle.program_options.specs.declared.words.Request.{Request}
+use Rattle.program_options.specs.declared.words.Wishes.{Wishes}
 
 -- of options any two of which may stand together
 seam : (front : List Choice) (c : Choice) (behind : List Choice) (d : Choice) → get_or (front ++ c ∷ behind) (length front) d ≡ c

@@ -1,9 +1,8 @@
 use Rattle.std.proofs.Common.{ap, sym, subst, ◌∙◌, ◌∷◌, List, ℕ}
 use Rattle.std.specs.Vec.Iter.{into_iter_items}
-use Rattle.cron_serve.specs.Words.{BeginsWith, texts_of}
-use Rattle.cron_serve.proofs.WordLemmas.{all_read, no_option, no_word_left, option_clashes, option_read}
-use Rattle.cron_serve.proofs.words.read_words.Goals as goal
-use Rattle.job_table.proofs.VariantLemmas.{if_none}
+use Rattle.program_options.specs.Words.{BeginsWith, texts_of}
+use Rattle.program_options.proofs.WordLemmas.{all_read, if_none, no_option, no_word_left, option_clashes, option_read}
+use Rattle.program_options.proofs.words.read_words.Goals as goal
 
 pub returns-in_err-choice-clause-none : goal.returns-in_err-choice-clause-none
 returns-in_err-choice-clause-none c =

@@ -1,7 +1,7 @@
 use Rattle.std.proofs.Common.{ap, sym, ◌∙◌}
-use Rattle.cron_serve.specs.Words.{texts_of}
-use Rattle.cron_serve.proofs.WordLemmas.{lanes_apart, seed_apart, spelled_begins}
-use Rattle.cron_serve.proofs.words.Choice.read.Goals as goal
+use Rattle.program_options.specs.Words.{texts_of}
+use Rattle.program_options.proofs.WordLemmas.{lanes_apart, seed_apart, spelled_begins}
+use Rattle.program_options.proofs.words.Choice.read.Goals as goal
 
 pub returns-in_ok-read_lanes-in-text-6-clause-found : goal.returns-in_ok-read_lanes-in-text-6-clause-found
 returns-in_ok-read_lanes-in-text-6-clause-found c =

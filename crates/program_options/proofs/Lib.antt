@@ -1,0 +1,3 @@
+mod OptionLemmas
+mod WishLemmas
+pub mod WordLemmas
